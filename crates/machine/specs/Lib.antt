@@ -1,0 +1,4 @@
+pub mod Machine
+pub mod Sizes
+pub mod Rows
+pub mod Outcome

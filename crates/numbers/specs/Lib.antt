@@ -1,0 +1,9 @@
+pub mod Bytes
+pub mod Panel
+pub mod Limits
+pub mod Arithmetic
+pub mod Screen
+pub mod Line
+pub mod Stack
+pub mod Rows
+pub mod Lent

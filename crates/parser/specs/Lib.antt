@@ -1,0 +1,4 @@
+pub mod Reader
+pub mod Grammar
+pub mod Rows
+pub mod Refusals

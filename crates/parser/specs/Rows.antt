@@ -1,0 +1,44 @@
+-- The trees of three sheets.
+use mathlib.Core.Path.{_≡_, refl}
+use mathlib.Core.List.{List, [], _∷_, _++_}
+use Prim.Native.Nat.{ℕ}
+use Rattle.numbers.specs.Panel.{bodyFailedQuietly}
+use Rattle.numbers.specs.Arithmetic.{equal}
+use Rattle.numbers.specs.Bytes.{bytes, isBlank, isDigit, isLetter, isWordByte, span, digits}
+use Rattle.lexer.specs.Marks.{placeOf, same, listed, keywords, pairs, singles, spelt}
+use Rattle.lexer.specs.Tokens.{lexAt, lexHere, signAt, numberAt, wordAt, wordFound}
+use Rattle.tree.specs.Tree.{Exp, lit, ref, chain, end, rel, assign, ifThen, last, noProcs}
+use Rattle.parser.specs.Reader.{counted, judge, enter, isMark, nameIn, numberIn, look, take, want, ifNext, taking, wantName, wantNumber, commas}
+use Rattle.parser.specs.Grammar.{parse, tree, refused, parsed, program, procOf, argPart, varPart, constPart, constDef, stmt, starts, startOf, ifNode, mapO, both, cond, compareWith, comparisons, comparisonOf, exp, orAbsent}
+
+-- one name for all that a text is read through
+unfoldable pub reading : ℕ
+unfolding bytes isBlank isDigit isLetter isWordByte span digits placeOf same listed keywords pairs singles spelt lexAt lexHere signAt numberAt wordAt wordFound counted judge enter isMark nameIn numberIn look take want ifNext taking wantName wantNumber commas parse parsed program procOf argPart varPart constPart constDef stmt starts startOf ifNode mapO both cond compareWith comparisons comparisonOf exp orAbsent
+reading = 0
+
+S : List ℕ
+S = bytes "program p; var x; "
+
+-- an expression of one factor
+one : Exp → Exp
+one e = chain (chain e end) end
+
+accepted : parse (S ++ bytes "begin x:=1 end")
+    ≡ tree (record { consts = []; vars = record { at = 15; text = bytes "x" } ∷ []; procs = noProcs; main = last (assign (record { at = 24; text = bytes "x" }) (one (lit 1))) })
+unfolding reading S one
+accepted = refl
+
+quiet : parse (S ++ bytes "begin x:=1; end") ≡ refused bodyFailedQuietly
+unfolding reading S
+quiet = refl
+
+-- the same failure after `else` is absorbed: the `if` has no else part
+absorbed : parse (S ++ bytes "begin if x=0 then x:=2 else begin x:=1; end")
+    ≡ tree (record {
+      consts = [];
+      vars = record { at = 15; text = bytes "x" } ∷ [];
+      procs = noProcs;
+      main = last (ifThen (rel equal (one (ref (record { at = 27; text = bytes "x" }))) (one (lit 0))) (assign (record { at = 36; text = bytes "x" }) (one (lit 2))));
+    })
+unfolding reading S one
+absorbed = refl
