@@ -94,7 +94,7 @@ taken src b c p e = go (leb (length src) maxSource) (every isAscii src) e
     go true false t = absurd (let z : _≡_ {A = ℕ} 0 1 = cc in omega arith)
     go false y t = absurd (let z : _≡_ {A = ℕ} 0 1 = cc in omega arith)
 
--- refusing refusal has the number 0, so that the number 0 says that the text was accepted
+-- no refusal has the number 0, so that the number 0 says that the text was accepted
 pub accepted-at-0 : (src : List ℕ) → numberOf (compile src) ≡ done → compile src ≡ accepted (codeOf (compile src))
 unfolding compile fromTree translated
 accepted-at-0 src e = go (leb (length src) maxSource) (every isAscii src) e
@@ -118,7 +118,7 @@ accepted-at-0 src e = go (leb (length src) maxSource) (every isAscii src) e
     go true false e = absurd (omega arith)
     go false y e = absurd (omega arith)
 
--- DEMAND 3. Whatever text compile answers with 0, and whose tree holds refusing procedure: its walk and the run of its code agree, for every input,
+-- DEMAND 3. Whatever text compile answers with 0, and whose tree holds no procedure: its walk and the run of its code agree, for every input,
 -- budget and room for output
 pub agreement : (src : List ℕ) (b : Block) → numberOf (compile src) ≡ done → parse src ≡ tree b → b .procs ≡ noProcs
     → (input : List ℕ) (budget room : ℕ) → Agrees (length (b .vars)) (walk src input budget room) (runOf (codeOf (compile src)) input budget room)
@@ -147,7 +147,7 @@ variables v x e h i l =
 pub steps : (v : ℕ) (x : Walked) (e : Ended) → Agrees v x e → (budget : ℕ) → budget - e .left ≡ budget - x .left
 steps v x e h budget = rw (h .left)
 
--- in a main block without procedures whose declarations are taken, refusing call is: 10 or 11
+-- in a main block without procedures whose declarations are taken, no call is: 10 or 11
 pub no-call : (b : Block) (r₁ r₂ : List Row) → constRows [] 0 links mainScope (b .consts) ≡ rows r₁ → varRows r₁ 0 links mainScope (b .vars) ≡ rows r₂
     → (n : Name) (es : List Exp) (p : ℕ) → (k : ℕ) × (stmtCode (main r₂) (call n es) p ≡ refuse k) × (nameNotFound ≤ k) × (k ≤ wrongKind)
 no-call b r₁ r₂ f₁ f₂ =

@@ -7,8 +7,9 @@ use lib.ListN.{length, getD}
 use Rattle.numbers.specs.Panel.{done, badToken, bodyFailedQuietly, levelAbove, budgetSpent, placeOutside}
 use Rattle.numbers.specs.Bytes.{bytes}
 use Rattle.parser.specs.Grammar.{Parsed, tree, refused, parse}
-use Rattle.pcode.specs.Operators.{return}
-use Rattle.pcode.specs.Code.{LIT, STO, INT, JMP, Instr, ins, opr}
+use Rattle.numbers.specs.Arithmetic.{equal}
+use Rattle.pcode.specs.Operators.{return, comparison}
+use Rattle.pcode.specs.Code.{LIT, LOD, STO, INT, JMP, JPC, Instr, ins, opr}
 use Rattle.symbols.specs.Symbols.{noRow}
 use Rattle.translator.specs.Translate.{Done, finished, failed, blockCode}
 use Rattle.machine.specs.Machine.{runOf}
@@ -61,15 +62,26 @@ unfoldable pub All : List Claim → Type 0
 All [] = Unit {0}
 All (c ∷ cs) = Holds c × All cs
 
+-- the rows of 01's table in its order; a row's walk follows it where there is no procedure
 unfoldable pub table : List Claim
 table =
     codeIs (S ++ bytes "begin x:=1 end") (ins JMP 0 (pos 1) ∷ ins INT 0 (pos 4) ∷ ins LIT 0 (pos 1) ∷ ins STO 0 (pos 3) ∷ opr return ∷ []) ∷
     runs (S ++ bytes "begin x:=1 end") done 5 [] ∷
+    walks (S ++ bytes "begin x:=1 end") done 5 [] ∷
     refusedWith (S ++ bytes "begin x:=1; end") bodyFailedQuietly ∷
+    walks (S ++ bytes "begin x:=1; end") bodyFailedQuietly 0 [] ∷
     accepts (S ++ bytes "begin if x=0 then x:=2 else begin x:=1; end") 10 ∷
+    codeIs (S ++ bytes "begin if x=0 then x:=2 else begin x:=1; end") (
+    ins JMP 0 (pos 1) ∷ ins INT 0 (pos 4) ∷ ins LOD 0 (pos 3) ∷ ins LIT 0 (pos 0) ∷ opr (comparison equal) ∷ ins JPC 0 (pos 9) ∷
+    ins LIT 0 (pos 2) ∷ ins STO 0 (pos 3) ∷ ins JMP 0 (pos 9) ∷ opr return ∷ []) ∷
+    runs (S ++ bytes "begin if x=0 then x:=2 else begin x:=1; end") done 10 [] ∷
+    walks (S ++ bytes "begin if x=0 then x:=2 else begin x:=1; end") done 10 [] ∷
     accepts (S ++ bytes "begin x:=1 end.") 5 ∷
+    walks (S ++ bytes "begin x:=1 end.") done 5 [] ∷
     refusedWith (S ++ bytes "begin x:=1 end_") badToken ∷
+    walks (S ++ bytes "begin x:=1 end_") badToken 0 [] ∷
     runs (bytes "program p; begin write(-7/2) end") done 9 (bytes "-3  \n") ∷
+    walks (bytes "program p; begin write(-7/2) end") done 9 (bytes "-3  \n") ∷
     entryOf (S ++ bytes "procedure q(m); begin x:=x+m end begin call q(5); write(x) end") 1 2 ∷
     accepts (S ++ bytes "procedure q(m); begin x:=x+m end begin call q(5); write(x) end") 16 ∷
     runs (S ++ bytes "procedure q(m); begin x:=x+m end begin call q(5); write(x) end") done 15 (bytes "5  \n") ∷
@@ -77,10 +89,8 @@ table =
     runs (bytes "program p; procedure q(); procedure r(); begin call q() end begin call r() end begin call q(); write(1) end") done 7 [] ∷
     codeRuns [] 0 budgetSpent ∷
     codeRuns [] 1 placeOutside ∷
-    walks (S ++ bytes "begin x:=1 end") done 5 [] ∷
-    walks (bytes "program p; begin write(-7/2) end") done 9 (bytes "-3  \n") ∷
     []
 
 pub sheets : All table
 unfolding computing S table All Holds
-sheets = (refl, ((refl, refl, refl), (refl, ((refl, refl), ((refl, refl), (refl, ((refl, refl, refl), (refl, ((refl, refl), ((refl, refl, refl), (refl, ((refl, refl, refl), (refl, (refl, ((refl, refl, refl), ((refl, refl, refl), tt))))))))))))))))
+sheets = (refl, ((refl, refl, refl), ((refl, refl, refl), (refl, ((refl, refl, refl), ((refl, refl), (refl, ((refl, refl, refl), ((refl, refl, refl), ((refl, refl), ((refl, refl, refl), (refl, ((refl, refl, refl), ((refl, refl, refl), ((refl, refl, refl), (refl, ((refl, refl), ((refl, refl, refl), (refl, ((refl, refl, refl), (refl, (refl, tt))))))))))))))))))))))

@@ -6,7 +6,7 @@ use mathlib.Core.Option.{Option, none, some}
 use Prim.Native.Nat.{ℕ, zero, suc}
 use lib.Dec.{ltb}
 use Rattle.numbers.specs.Limits.{maxTokens, maxOpen}
-use Rattle.numbers.specs.Panel.{bodyFailedQuietly}
+use Rattle.numbers.specs.Panel.{bodyFailedQuietly, tooManyTokens}
 use Rattle.numbers.specs.Arithmetic.{Compare}
 use Rattle.lexer.specs.Marks.{Mark, thenWord, elseWord, doWord, procedureWord, beginWord, endWord, oddWord, plusSign, minusSign, timesSign, divideSign, openSign, closeSign, semicolonSign, commaSign, becomesSign, constWord, varWord, programWord, same}
 use Rattle.lexer.specs.Tokens.{Name, Token, mark, name, number, Found, token, bad, tooBig, endOfText, lexAt}
@@ -43,7 +43,7 @@ counted-no : {A : Type 0} {a : Ans A} (c : Cursor) → Numbered a → Numbered (
 unfolding counted
 counted-no {A} {a} c h = go (ltb (c .seen) maxTokens)
   where
-    go : (x : Bool) → Numbered {A = A} (elim x as (λ y. Ans A) [ true ↦ a | false ↦ refuse 8 ])
+    go : (x : Bool) → Numbered {A = A} (elim x as (λ y. Ans A) [ true ↦ a | false ↦ refuse tooManyTokens ])
     go true = h
     go false = isNo refl
 

@@ -222,7 +222,7 @@ procs-no (proc n ar cs vs inner b later) l sc a rs p =
     with-done _ (procs-no later _ _ _ _ _) λ c3 r7 a3. isDone)
     (notDone refl)
 
--- refusing refusal of the translator has the number 0
+-- no refusal of the translator has the number 0
 pub block-no : (b : Block) → DoneNumbered (blockCode b)
 unfolding blockCode
 block-no b =
