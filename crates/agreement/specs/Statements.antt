@@ -22,10 +22,10 @@ use Rattle.symbols.specs.Symbols.{Kind, const, var, procedure, Row, find, mainS
 use Rattle.translator.specs.Translate.{reach, storing, ifVar, ifProc, callCode, readsCode, writesCode, stmtCode, stmtsCode, expCode, condCode}
 use Rattle.machine.specs.Machine.{run}
 use Rattle.walk.specs.Walk.{State, Walk, then, _>>=_, _>>_, pure, step, tick, whether, loop, store, placeIn, walkExp, walkCond, readLine, walkReads, walkWrites, walkStmt, walkStmts}
-use Rattle.engine.specs.Exprs.{SoundBy, SoundFound, main, Pushes, made-reach, exp-pushes, cond-pushes}
-use Rattle.engine.specs.InStep.{at, Rel, Pushed, Sim, came, bind, ticks}
-use Rattle.engine.specs.Instructions.{sto-law, write-law, newline-law, read-law, jmp-step, jpc-out, jpc-on, tick-law}
-use Rattle.engine.specs.Places.{At, Made, made-emit, made-seq, made-no, made-nothing, made-jump, made-order}
+use Rattle.agreement.specs.Exprs.{SoundBy, SoundFound, main, Pushes, made-reach, exp-pushes, cond-pushes}
+use Rattle.agreement.specs.InStep.{at, Rel, Pushed, Sim, came, bind, ticks}
+use Rattle.agreement.specs.Instructions.{sto-law, write-law, newline-law, read-law, jmp-step, jpc-out, jpc-on, tick-law}
+use Rattle.agreement.specs.Places.{At, Made, made-emit, made-seq, made-no, made-nothing, made-jump, made-order}
 
 -- without a procedure to find, a call is refused with 10 or 11
 pub call-refused : (v : ℕ) (rs : List Row) → ((n : List ℕ) → SoundFound (links + v) (find rs n mainScope)) → (n : Name) (es : List Exp) (p : ℕ) → (k : ℕ) × (stmtCode (main rs) (call n es) p ≡ refuse k) × (nameNotFound ≤ k) × (k ≤ wrongKind)

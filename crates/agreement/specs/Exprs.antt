@@ -14,9 +14,9 @@ use Rattle.symbols.specs.Symbols.{Kind, const, var, procedure, Row, find, mainS
 use Rattle.translator.specs.Translate.{Env, reach, valueCode, used, expCode, chainCode, condCode}
 use Rattle.machine.specs.Machine.{run}
 use Rattle.walk.specs.Walk.{State, Walk, walkExp, walkChain, walkCond, valueIn, valueBy, push}
-use Rattle.engine.specs.InStep.{at, Rel, Pushed, Sim, came, bind}
-use Rattle.engine.specs.Instructions.{lit-law, lod-law, neg-law, odd-law, arith-law, compare-law}
-use Rattle.engine.specs.Places.{At, Made, made-emit, made-seq, made-no, made-nothing}
+use Rattle.agreement.specs.InStep.{at, Rel, Pushed, Sim, came, bind}
+use Rattle.agreement.specs.Instructions.{lit-law, lod-law, neg-law, odd-law, arith-law, compare-law}
+use Rattle.agreement.specs.Places.{At, Made, made-emit, made-seq, made-no, made-nothing}
 
 -- a row of the main block: a constant, or a variable with a cell below n
 abbrev pub SoundBy : ℕ → Row → Kind → Type 0

@@ -21,13 +21,13 @@ use Rattle.translator.specs.Translate.{Env, Done, finished, failed, withDone, b
 use Rattle.machine.specs.Machine.{Ended, runOf}
 use Rattle.machine.specs.Sizes.{Sized, run-sized}
 use Rattle.walk.specs.Walk.{Walked, begin, walkBlock}
 use Rattle.engine.specs.Compile.{Compiled, accepted, notAccepted, codeOf, compile, fromTree, translated, unwalked, walkUnless, walkAfter, walk}
 use Rattle.machine.specs.Outcome.{RunOutcome, runLeaves, runOutcome}
 use Rattle.numbers.specs.Lent.{holds, onto, filled}
 use Rattle.engine.specs.Outcomes.{codeHolds, CompileOutcome, compileLeaves, compileOutcome, WalkOutcome, walkLeaves, walkOutcome, Work, workHolds, cleared}
-use Rattle.engine.specs.Places.{Made}
-use Rattle.engine.specs.Program.{Agrees, standing, with-rows, with-code}
-use Rattle.engine.specs.Agreement.{few-places, taken, block-agrees}
+use Rattle.agreement.specs.Places.{Made}
+use Rattle.agreement.specs.Program.{Agrees, standing, with-rows, with-code}
+use Rattle.agreement.specs.Texts.{few-places, taken, block-agrees}
 
 with-done : (x : Done) (k : List Instr → List Row → ℕ → Done) {c : List Instr} {rs : List Row} {a : ℕ} → withDone x k ≡ finished c rs a
     → (d : List Instr) × (r : List Row) × (n : ℕ) × (x ≡ finished d r n) × (k d r n ≡ finished c rs a)

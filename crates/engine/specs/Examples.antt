@@ -1,19 +1,16 @@
--- More examples: the least number, entries, procedures, a negative base, and an instance of the agreement.
+-- Examples beyond the table of sheets: the least number, entries, procedures, and a negative base.
 use mathlib.Core.Path.{_≡_, refl}
 use mathlib.Core.List.{List, [], _∷_, _++_}
 use Prim.Native.Nat.{ℕ, _-_}
 use lib.IntN.{pos, negsuc}
 use Rattle.numbers.specs.Panel.{done, literalTooBig, tokenMissing, tooManyOpen, nameTaken, cellOutside, resultOutside, badEntry}
 use Rattle.numbers.specs.Bytes.{bytes}
-use Rattle.tree.specs.Tree.{noProcs, assign, lit, chain, end, last}
 use Rattle.pcode.specs.Operators.{return}
 use Rattle.pcode.specs.Code.{LIT, LOD, STO, CAL, INT, JMP, Instr, ins, opr}
 use Rattle.machine.specs.Machine.{Ended, runOf}
-use Rattle.engine.specs.Compile.{numberOf, codeOf, compile, walk}
+use Rattle.engine.specs.Compile.{numberOf, codeOf, compile}
 use Rattle.engine.specs.Computing.{computing}
 use Rattle.engine.specs.Sheets.{S}
-use Rattle.engine.specs.Program.{Agrees}
-use Rattle.engine.specs.Agreement.{agreement}
 
 go : List ℕ → List ℕ → Ended
 go t i = runOf (codeOf (compile t)) i 1000 1000
@@ -100,8 +97,3 @@ below-return = refl
 below-calls : after (ins CAL 0 (pos 0) ∷ []) ≡ (done, 7)
 unfolding computing down after
 below-calls = refl
-
--- the agreement at one sheet, whatever the input, the budget and the room
-one-sheet : (input : List ℕ) (budget room : ℕ) → Agrees 1 (walk (S ++ bytes "begin x:=1 end") input budget room) (runOf (ins JMP 0 (pos 1) ∷ ins INT 0 (pos 4) ∷ ins LIT 0 (pos 1) ∷ ins STO 0 (pos 3) ∷ opr return ∷ []) input budget room)
-unfolding computing S
-one-sheet = agreement (S ++ bytes "begin x:=1 end") (record { consts = []; vars = record { at = 15; text = 120 ∷ [] } ∷ []; procs = noProcs; main = last (assign (record { at = 24; text = 120 ∷ [] }) (chain (chain (lit 1) end) end)) }) refl refl refl

@@ -21,12 +21,12 @@ use Rattle.symbols.specs.Symbols.{rows, Row, find, Rows, refuseRows, constRows,
 use Rattle.translator.specs.Translate.{Done, finished, withRows, withCode, procsCode, blockCode, stmtsCode}
 use Rattle.machine.specs.Machine.{Step, next, halt, stop, Ended, ended, run, step, perform, operate, from, cellAt, goto, with}
 use Rattle.walk.specs.Walk.{State, Result, Walk, then, tick, atTop, walkMain, Walked, walked, declaredRows}
-use Rattle.engine.specs.Declared.{const-rows, var-rows, sound-rows}
-use Rattle.engine.specs.Exprs.{SoundFound, main}
-use Rattle.engine.specs.InStep.{at, frame, Rel, Sim, came, stopped, makes}
-use Rattle.engine.specs.Instructions.{fetch, fetch-oper, jmp-step}
-use Rattle.engine.specs.Places.{At, Made, made-emit, made-seq, made-order}
-use Rattle.engine.specs.Statements.{stmts-run}
+use Rattle.agreement.specs.Declared.{const-rows, var-rows, sound-rows}
+use Rattle.agreement.specs.Exprs.{SoundFound, main}
+use Rattle.agreement.specs.InStep.{at, frame, Rel, Sim, came, stopped, makes}
+use Rattle.agreement.specs.Instructions.{fetch, fetch-oper, jmp-step}
+use Rattle.agreement.specs.Places.{At, Made, made-emit, made-seq, made-order}
+use Rattle.agreement.specs.Statements.{stmts-run}
 
 -- the walk's end and the run's, with v variables: cells 0 to 2 are the main block's links, and the variables follow
 pub record Agrees (v : ℕ) (x : Walked) (e : Ended) : Type 0 where

@@ -26,13 +26,13 @@ use Rattle.symbols.specs.Symbols.{rows, Row, constRows, varRows, mainScope}
 use Rattle.translator.specs.Translate.{Done, finished, failed, blockCode, stmtCode, stmtsCode}
 use Rattle.machine.specs.Machine.{Ended, run, runOf, start}
 use Rattle.walk.specs.Walk.{walkMain, Walked, walked, begin, declaredRows, walkBlock}
 use Rattle.engine.specs.Compile.{Compiled, accepted, notAccepted, numberOf, codeOf, compile, fromTree, translated, walkAfter, walkParsed, walkUnless, walk}
-use Rattle.engine.specs.Declared.{const-rows, var-rows, sound-rows}
-use Rattle.engine.specs.Exprs.{main}
-use Rattle.engine.specs.InStep.{at, frame}
-use Rattle.engine.specs.Places.{At, Made, made-seq, made-few}
-use Rattle.engine.specs.Program.{Agrees, Entered, program-agrees, Standing, standing}
-use Rattle.engine.specs.Statements.{call-refused}
+use Rattle.agreement.specs.Declared.{const-rows, var-rows, sound-rows}
+use Rattle.agreement.specs.Exprs.{main}
+use Rattle.agreement.specs.InStep.{at, frame}
+use Rattle.agreement.specs.Places.{At, Made, made-seq, made-few}
+use Rattle.agreement.specs.Program.{Agrees, Entered, program-agrees, Standing, standing}
+use Rattle.agreement.specs.Statements.{call-refused}
 
 take-zeros : (n m : ℕ) → n ≤ m → take n (replicate m (pos 0)) ≡ replicate n (pos 0)
 take-zeros zero m h = refl
@@ -118,7 +118,7 @@ accepted-at-0 src e = go (leb (length src) maxSource) (every isAscii src) e
     go true false e = absurd (omega arith)
     go false y e = absurd (omega arith)
 
--- DEMAND 3. Whatever text compile answers with 0, and whose tree holds no procedure: its walk and the run of its code agree, for every input,
+-- Whatever text compile answers with 0, and whose tree holds no procedure: its walk and the run of its code agree, for every input,
 -- budget and room for output
 pub agreement : (src : List ℕ) (b : Block) → numberOf (compile src) ≡ done → parse src ≡ tree b → b .procs ≡ noProcs
     → (input : List ℕ) (budget room : ℕ) → Agrees (length (b .vars)) (walk src input budget room) (runOf (codeOf (compile src)) input budget room)

@@ -1,4 +1,4 @@
--- DEMAND 3 over the public outcomes: what compile leaves, handed to run, and walk on the same text, with the same input, budget and output room.
+-- The agreement over the public outcomes: what compile leaves, handed to run, and walk on the same text, with the same input, budget and output room.
 use mathlib.Core.Path.{_≡_, refl, ap, sym, _∙_, subst}
 use mathlib.Core.Bool.{Bool, true, false, _&&_}
 use mathlib.Core.List.{List, [], _∷_, _++_, map}
@@ -16,21 +16,13 @@ use Rattle.pcode.specs.Code.{Instr, nil, placeFor, instrIn, Code, codeFor, plac
 use Rattle.machine.specs.Machine.{Ended, runOf}
 use Rattle.machine.specs.Sizes.{Sized, run-sized}
 use Rattle.walk.specs.Walk.{Walked}
 use Rattle.engine.specs.Compile.{Compiled, numberOf, codeOf, compile, walk}
-use Rattle.machine.specs.Outcome.{RunOutcome, runLeaves, runOutcome}
-use Rattle.numbers.specs.Lent.{holds, onto, filled}
-use Rattle.engine.specs.Outcomes.{codeHolds, CompileOutcome, compileLeaves, compileOutcome, WalkOutcome, walkLeaves, walkOutcome, cut, Work, workHolds}
-use Rattle.engine.specs.Program.{Agrees}
-use Rattle.engine.specs.Agreement.{agreement, few-variables, variables, steps as same-steps}
-
--- the same end, for a program with v variables
-pub record SameEnd (v : ℕ) (r : RunOutcome) (w : WalkOutcome) : Type 0 where
-  pub number : r .number ≡ w .number
-  pub outLength : r .outLength ≡ w .outLength
-  pub lines : r .lines ≡ w .lines
-  pub steps : r .steps ≡ w .steps
-  pub out : r .out ≡ w .out
-  pub variables : (i : ℕ) → i < v → getD (w .vars) i (pos 0) ≡ getD (r .cells) (links + i) (pos 0)
+use Rattle.machine.specs.Outcome.{runLeaves, runOutcome}
+use Rattle.numbers.specs.Lent.{onto, filled}
+use Rattle.engine.specs.Outcomes.{codeHolds, CompileOutcome, compileLeaves, compileOutcome, walkLeaves, walkOutcome, cut, Work, workHolds}
+use Rattle.agreement.specs.Agreement.{OutcomesAlike}
+use Rattle.agreement.specs.Program.{Agrees}
+use Rattle.agreement.specs.Texts.{agreement, few-variables, variables, steps as same-steps}
 
 -- the places of a code list, with whatever stands after them, mean the list
 means : (c rest : List Instr) (ks : List ℤ) (ls : List ℕ) (os : List ℤ)
@@ -78,7 +70,7 @@ padded (v ∷ vs) k (suc i) = padded vs k i
 
 -- the ends of a run and a walk that agree, put into the lent lists
 leaves-agree : (v : ℕ) (x : Walked) (e : Ended) (budget : ℕ) (out : List ℕ) (cells vars : List ℤ) (work : Work) → v ≤ maxVariables → length (e .machine .cells) ≡ maxCells → Agrees v x e
-    → SameEnd v (runLeaves e budget out cells) (walkLeaves x budget out vars work)
+    → OutcomesAlike v (runLeaves e budget out cells) (walkLeaves x budget out vars work)
 unfolding runLeaves walkLeaves
 leaves-agree v x e budget out cells vars work few size h = record {
   number = h .number;
@@ -86,7 +78,7 @@ leaves-agree v x e budget out cells vars work few size h = record {
   lines = h .lines;
   steps = same-steps v x e h budget;
   out = ap (onto out) (h .out);
-  variables = λ i l. place i l ∙ sym (variables v x e h i l) ∙ sym (cell i l);
+  variables = λ i l. cell i l ∙ variables v x e h i l ∙ sym (place i l);
 }
   where
     place : (i : ℕ) → i < v → getD (onto vars (filled maxVariables (pos 0) (x .final .vars))) i (pos 0) ≡ getD (x .final .vars) i (pos 0)
@@ -105,7 +97,7 @@ number-is a code work = refl
 -- and walk on the text end alike, for every input, every budget and every output room, with every room lent that is large enough
 pub outcomes-agree : (src : List ℕ) (b : Block) → parse src ≡ tree b → b .procs ≡ noProcs → (code : Code) (work : Work) → compileOutcome src code work .number ≡ done
     → (input : List ℕ) (budget : ℕ) (out : List ℕ) (cells vars : List ℤ) (work′ : Work) → maxCells ≤ length cells → maxVariables ≤ length vars → workHolds work′ ≡ true
-    → let o = compileOutcome src code work in SameEnd (length (b .vars)) (runOutcome (cut (o .length) (o .code)) input budget out cells) (walkOutcome src input budget out vars work′)
+    → let o = compileOutcome src code work in OutcomesAlike (length (b .vars)) (runOutcome (cut (o .length) (o .code)) input budget out cells) (walkOutcome src input budget out vars work′)
 outcomes-agree src b p none code work z input budget out cells vars work′ hc hv hw =
     let e : compileOutcome src code work ≡ compileLeaves (compile src) code work = compile-done src code work z in
     let n : numberOf (compile src) ≡ done = sym (number-is (compile src) code work) ∙ subst (λ o. o .number ≡ done) e z in

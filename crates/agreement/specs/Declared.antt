@@ -15,7 +15,7 @@ use Rattle.numbers.specs.Bytes.{eqList}
 use Rattle.lexer.specs.Tokens.{Name}
 use Rattle.tree.specs.Tree.{Const}
 use Rattle.symbols.specs.Symbols.{rows, Row, find, findIn, declared, allIn, Rows, refuseRows, andRows, oneMore, fresh, constRows, varRows, mainScope}
-use Rattle.engine.specs.Exprs.{SoundBy, SoundFound}
+use Rattle.agreement.specs.Exprs.{SoundBy, SoundFound}
 
 abbrev pub Sound : ℕ → Row → Type 0
 Sound n r = SoundBy n r (r .kind)

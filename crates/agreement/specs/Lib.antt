@@ -1,0 +1,12 @@
+pub mod Agreement
+pub mod Places
+pub mod InStep
+pub mod Instructions
+pub mod Exprs
+pub mod Statements
+pub mod Declared
+pub mod Program
+pub mod Texts
+pub mod Sizes
+pub mod Entries
+pub mod Proved
