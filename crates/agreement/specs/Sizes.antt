@@ -1,78 +1,35 @@
 -- Every lent list has afterwards as many places as before; and a code list that compile leaves has at most 4,096 instructions.
 use mathlib.Core.Path.{_≡_, refl, ap, _∙_}
 use mathlib.Core.Bool.{Bool, true, false, _&&_}
-use mathlib.Core.List.{List, [], _∷_, _++_, map, append-nil}
+use mathlib.Core.List.{List, map}
 use Prim.Native.Nat.{ℕ, suc, _+_, _-_, _≤_}
 use native.Mathlib.Omega.{arith}
 use lib.IntN.{ℤ, pos}
-use lib.Dec.{leb}
 use lib.ListN.{length, take, drop, length-take, replicate, length-append, length-drop, length-map, length-replicate}
 use borrow.Author.Tests.{leb-true}
-use Rattle.numbers.specs.Panel.{sourceTooLong, sourceNotAscii, roomTooSmall, procedureInTree}
-use Rattle.numbers.specs.Limits.{maxSource, maxCode, maxCells, maxVariables, treePlaces, tablePlaces, draftPlaces}
-use Rattle.numbers.specs.Bytes.{isAscii, every}
+use Rattle.numbers.specs.Panel.{roomTooSmall, procedureInTree}
+use Rattle.numbers.specs.Limits.{maxCode, maxCells, maxVariables, treePlaces, tablePlaces, draftPlaces}
 use Rattle.numbers.specs.Stack.{links}
-use Rattle.tree.specs.Tree.{Stmts, Procs, noProcs, proc, Block}
+use Rattle.tree.specs.Tree.{Procs, noProcs, proc, Block}
 use Rattle.parser.specs.Grammar.{parse, Parsed, tree, refused}
-use Rattle.pcode.specs.Code.{JMP, Instr, ins, nil, Place, placeFor, Code, codeFor, instrsIn}
-use Rattle.symbols.specs.Symbols.{mainScope, Row, constRows, varRows}
-use Rattle.translator.specs.Pieces.{made}
-use Rattle.translator.specs.Translate.{Env, Done, finished, failed, withDone, bodyCode, procsCode, blockCode}
+use Rattle.pcode.specs.Code.{Instr, nil, Place, placeFor, Code, codeFor, instrsIn}
 use Rattle.machine.specs.Machine.{Ended, runOf}
 use Rattle.machine.specs.Sizes.{Sized, run-sized}
 use Rattle.walk.specs.Walk.{Walked, begin, walkBlock}
-use Rattle.engine.specs.Compile.{Compiled, accepted, notAccepted, codeOf, compile, fromTree, translated, unwalked, walkUnless, walkAfter, walk}
+use Rattle.engine.specs.Compile.{Compiled, accepted, notAccepted, codeOf, compile, unwalked, walkUnless, walkAfter, walk}
 use Rattle.machine.specs.Outcome.{RunOutcome, runLeaves, runOutcome}
 use Rattle.numbers.specs.Lent.{holds, onto, filled}
 use Rattle.engine.specs.Outcomes.{codeHolds, CompileOutcome, compileLeaves, compileOutcome, WalkOutcome, walkLeaves, walkOutcome, Work, workHolds, cleared}
-use Rattle.agreement.specs.Places.{Made}
-use Rattle.agreement.specs.Program.{Agrees, standing, with-rows, with-code}
-use Rattle.agreement.specs.Texts.{few-places, taken, block-agrees}
-
-with-done : (x : Done) (k : List Instr → List Row → ℕ → Done) {c : List Instr} {rs : List Row} {a : ℕ} → withDone x k ≡ finished c rs a
-    → (d : List Instr) × (r : List Row) × (n : ℕ) × (x ≡ finished d r n) × (k d r n ≡ finished c rs a)
-with-done (finished d r n) k e = (d, r, n, refl, e)
-with-done (failed n) k e = absurd (let z : _≡_ {A = ℕ} 0 1 = cc in omega arith)
-
--- the last instruction of a block stands at a place below 4,096
-last-fits : (ρ : Env) (n : ℕ) (m : Stmts) (c c₁ c₂ : List Instr) → bodyCode ρ n m (1 + length c₁) ≡ made c₂ → c ≡ ins JMP 0 (pos (1 + length c₁)) ∷ c₁ ++ c₂ → length c ≤ maxCode
-last-fits ρ n m c c₁ c₂ gives is =
-    let whole : Made c (bodyCode ρ n m) (1 + length c₁) (length c) = record {
-      pre = ins JMP 0 (pos (1 + length c₁)) ∷ c₁;
-      piece = c₂;
-      post = [];
-      gives = gives;
-      stands = is ∙ rw append-nil;
-      starts = omega arith;
-      ends = omega (arith, ap length is, length-append c₁ c₂);
-    } in
-    few-places c _ _ _ _ whole
-
-block-fits : (b : Block) (c : List Instr) (rs : List Row) (a : ℕ) → blockCode b ≡ finished c rs a → length c ≤ maxCode
-unfolding blockCode
-block-fits b c rs a e =
-    let (r₁, f₁, e₁) = with-rows (constRows [] 0 links mainScope (b .consts)) _ e in
-    let (r₂, f₂, e₂) = with-rows (varRows r₁ 0 links mainScope (b .vars)) _ e₁ in
-    let (c₁, r₃, n, f₃, e₃) = with-done (procsCode (b .procs) 0 mainScope (links + length (b .vars)) r₂ 1) _ e₂ in
-    let (c₂, f₄, e₄) = with-code (bodyCode (record { rows = r₃; level = 0; scope = mainScope }) n (b .main) (1 + length c₁)) (λ d. finished (ins JMP 0 (pos (1 + length c₁)) ∷ c₁ ++ d) r₃ n) e₃ in
-    last-fits (record { rows = r₃; level = 0; scope = mainScope }) n (b .main) c c₁ c₂ f₄ (cc)
+use Rattle.agreement.specs.Program.{Agrees, standing}
+use Rattle.engine.specs.Accepted.{accepted-shape}
+use Rattle.agreement.specs.Texts.{taken, block-agrees}
 
 pub code-fits : (src : List ℕ) → length (codeOf (compile src)) ≤ maxCode
-unfolding compile fromTree translated
-code-fits src = go (leb (length src) maxSource) (every isAscii src)
+code-fits src = go (compile src) refl
   where
-    block : (b : Block) (d : Done) → blockCode b ≡ d → length (codeOf (translated d)) ≤ maxCode
-    block b (finished c rs a) e = block-fits b c rs a e
-    block b (failed n) e = omega arith
-
-    parsed : (t : Parsed) → length (codeOf (fromTree t)) ≤ maxCode
-    parsed (tree b) = block b (blockCode b) refl
-    parsed (refused n) = omega arith
-
-    go : (x y : Bool) → length (codeOf (elim x as (λ z. Compiled) [ false ↦ notAccepted sourceTooLong | true ↦ elim y as (λ z. Compiled) [ false ↦ notAccepted sourceNotAscii | true ↦ fromTree (parse src) ] ])) ≤ maxCode
-    go true true = parsed (parse src)
-    go true false = omega arith
-    go false y = omega arith
+    go : (x : Compiled) → compile src ≡ x → length (codeOf x) ≤ maxCode
+    go (accepted c) e = accepted-shape src c e .most
+    go (notAccepted n) e = omega arith
 
 onto-keeps : {A : Type 0} (lent new : List A) → length new ≤ length lent → length (onto lent new) ≡ length lent
 onto-keeps lent new h = omega (arith, length-append new (drop (length new) lent), length-drop (length new) lent)

@@ -11,26 +11,29 @@ use lib.ListN.{length, getD, take, replicate, length-replicate}
 use lib.Seq.{getD-take}
 use borrow.Author.Tests.{le-leb, ltb-true}
 use Rattle.numbers.specs.Panel.{nameNotFound, wrongKind, sourceTooLong, sourceNotAscii, done}
-use Rattle.numbers.specs.Limits.{maxCode, maxCells, maxRows, maxSource}
+use Rattle.numbers.specs.Limits.{maxOpen, maxCode, maxCells, maxRows, maxSource}
 use Rattle.numbers.specs.Stack.{links}
 use Rattle.numbers.specs.Bytes.{isAscii, every}
 use Rattle.lexer.specs.Tokens.{Name}
 use Rattle.parser.specs.Grammar.{parse, Parsed, tree, refused}
 use Rattle.parser.specs.Refusals.{parse-refuses}
+use Rattle.parser.specs.Depth.{nest-none}
 use Rattle.tree.specs.Tree.{Exp, call, noProcs, Block}
 use Rattle.pcode.specs.Operators.{return}
-use Rattle.pcode.specs.Code.{OPR, INT, JMP, Instr, ins}
-use Rattle.translator.specs.Pieces.{emitOper, refuse, Piece, _⨾_, emit}
+use Rattle.pcode.specs.Code.{INT, JMP, Instr, ins}
+use Rattle.translator.specs.Pieces.{emitOper, refuse, _⨾_, emit}
 use Rattle.translator.specs.Refusals.{DoneNumbered, notDone, block-no}
 use Rattle.symbols.specs.Symbols.{rows, Row, constRows, varRows, mainScope}
 use Rattle.translator.specs.Translate.{Done, finished, failed, blockCode, stmtCode, stmtsCode}
 use Rattle.machine.specs.Machine.{Ended, run, runOf, start}
 use Rattle.walk.specs.Walk.{walkMain, Walked, walked, begin, declaredRows, walkBlock}
 use Rattle.engine.specs.Compile.{Compiled, accepted, notAccepted, numberOf, codeOf, compile, fromTree, translated, walkAfter, walkParsed, walkUnless, walk}
+use Rattle.translator.specs.Shape.{block-shape}
+use Rattle.engine.specs.Accepted.{behind}
 use Rattle.agreement.specs.Declared.{const-rows, var-rows, sound-rows}
 use Rattle.agreement.specs.Exprs.{main}
-use Rattle.agreement.specs.InStep.{at, frame}
-use Rattle.agreement.specs.Places.{At, Made, made-seq, made-few}
+use Rattle.agreement.specs.InStep.{frame}
+use Rattle.agreement.specs.Places.{At, Made}
 use Rattle.agreement.specs.Program.{Agrees, Entered, program-agrees, Standing, standing}
 use Rattle.agreement.specs.Statements.{call-refused}
 
@@ -41,12 +44,6 @@ take-zeros (suc n) (suc m) h = ap (λ l. pos 0 ∷ l) (take-zeros n m (omega ari
 
 zeros-frame : (v : ℕ) → replicate (links + v) (pos 0) ≡ frame (replicate v (pos 0))
 zeros-frame v = let e : links + v ≡ suc (suc (suc v)) = omega arith in rw e
-
-pub few-places : (code : List Instr) (g h : Piece) (p q : ℕ) → Made code (g ⨾ h ⨾ emitOper return) p q → q ≤ maxCode
-few-places code g h p q m =
-    let (r, m₁, m₂) = made-seq m in
-    let (t, m₃, m₄) = made-seq m₂ in
-    made-few OPR 0 (pos 0) m₄
 
 run-is : (c : List Instr) (input : List ℕ) (budget room : ℕ) → length c ≤ maxCode → runOf c input budget room ≡ run c room budget (start input)
 unfolding runOf
@@ -75,24 +72,17 @@ block-agrees b c rs a none e input budget room = go (standing b c rs a none e)
           ends = omega (arith, ap length (s .is));
         } in
         let first : At c 0 (ins JMP 0 (pos 1)) = record { inside = omega (arith, ap length (s .is)); is = rw (s .is) } in
-        let small : length c ≤ maxCode = few-places c _ _ _ _ whole in
+        let small : length c ≤ maxCode = block-shape b maxOpen (rw none (nest-none maxOpen)) c rs a e .most in
         let low : links + v ≤ maxCells = omega (arith, s .few) in
         let en : Entered c room v (begin (length (b .vars)) input) (replicate maxCells (pos 0)) = record { top = refl; size = length-replicate maxCells (pos 0); low = take-zeros (links + v) maxCells low ∙ zeros-frame v } in
         rw (run-is c input budget room small, walk-is b (s .rs) input budget room (s .declared)) (program-agrees c room v (s .few) (s .rs) (s .sound) (b .main) first whole budget (begin (length (b .vars)) input) (replicate maxCells (pos 0)) en)
 
 -- an accepted text's tree was translated to its code
 pub taken : (src : List ℕ) (b : Block) (c : List Instr) → parse src ≡ tree b → compile src ≡ accepted c → (rs : List Row) × (a : ℕ) × (blockCode b ≡ finished c rs a)
-unfolding compile fromTree translated
-taken src b c p e = go (leb (length src) maxSource) (every isAscii src) e
-  where
-    block : (d : Done) → blockCode b ≡ d → translated d ≡ accepted c → (rs : List Row) × (a : ℕ) × (blockCode b ≡ finished c rs a)
-    block (finished x rs a) f t = (rs, a, (cc))
-    block (failed n) f t = absurd (let z : _≡_ {A = ℕ} 0 1 = cc in omega arith)
-
-    go : (x y : Bool) → elim x as (λ z. Compiled) [ false ↦ notAccepted sourceTooLong | true ↦ elim y as (λ z. Compiled) [ false ↦ notAccepted sourceNotAscii | true ↦ fromTree (parse src) ] ] ≡ accepted c → (rs : List Row) × (a : ℕ) × (blockCode b ≡ finished c rs a)
-    go true true t = block (blockCode b) refl (rw p at t)
-    go true false t = absurd (let z : _≡_ {A = ℕ} 0 1 = cc in omega arith)
-    go false y t = absurd (let z : _≡_ {A = ℕ} 0 1 = cc in omega arith)
+taken src b c p e =
+    let h = behind src c e in
+    let same : h .block ≡ b = cc in
+    (h .rows, h .next, rw (sym same) (h .made))
 
 -- no refusal has the number 0, so that the number 0 says that the text was accepted
 pub accepted-at-0 : (src : List ℕ) → numberOf (compile src) ≡ done → compile src ≡ accepted (codeOf (compile src))

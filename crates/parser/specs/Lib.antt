@@ -2,3 +2,4 @@ pub mod Reader
 pub mod Grammar
 pub mod Rows
 pub mod Refusals
+pub mod Depth

@@ -1,3 +1,4 @@
 pub mod Pieces
 pub mod Translate
 pub mod Refusals
+pub mod Shape

@@ -1,0 +1,52 @@
+-- What an accepted text is: its tree was read, and translated to its code. And what that code is, for the readers of demand 2: between 3 and 4,096
+-- instructions, of kinds 0 to 8 alone; jumps and calls to within the list; levels of variables and procedures of at most 64.
+-- (The level of STA is no level but the number of an argument.)
+use mathlib.Core.Path.{_≡_, refl}
+use mathlib.Core.Bool.{Bool, true, false}
+use mathlib.Core.List.{List}
+use Prim.Native.Nat.{ℕ}
+use native.Mathlib.Omega.{arith}
+use lib.Dec.{leb}
+use lib.ListN.{length}
+use Rattle.numbers.specs.Panel.{sourceTooLong, sourceNotAscii}
+use Rattle.numbers.specs.Limits.{maxSource, maxOpen}
+use Rattle.numbers.specs.Bytes.{isAscii, every}
+use Rattle.tree.specs.Tree.{Block}
+use Rattle.parser.specs.Grammar.{parse, Parsed, tree, refused}
+use Rattle.parser.specs.Depth.{parse-nests}
+use Rattle.pcode.specs.Code.{Instr}
+use Rattle.symbols.specs.Symbols.{Row}
+use Rattle.translator.specs.Shape.{Shape, block-shape}
+use Rattle.translator.specs.Translate.{Done, finished, failed, blockCode}
+use Rattle.engine.specs.Compile.{Compiled, accepted, notAccepted, translated, fromTree, compile}
+
+-- the tree behind accepted code, and its rows
+pub record Behind (src : List ℕ) (c : List Instr) : Type 0 where
+  pub block : Block
+  pub rows : List Row
+  pub next : ℕ
+  pub read : parse src ≡ tree block
+  pub made : blockCode block ≡ finished c rows next
+
+pub behind : (src : List ℕ) (c : List Instr) → compile src ≡ accepted c → Behind src c
+unfolding compile fromTree translated
+behind src c e = go (leb (length src) maxSource) (every isAscii src) e
+  where
+    block : (b : Block) → parse src ≡ tree b → (d : Done) → blockCode b ≡ d → translated d ≡ accepted c → Behind src c
+    block b p (finished x rs a) f t = record { block = b; rows = rs; next = a; read = p; made = cc }
+    block b p (failed n) f t = absurd (let z : _≡_ {A = ℕ} 0 1 = cc in omega arith)
+
+    parsed : (x : Parsed) → parse src ≡ x → fromTree x ≡ accepted c → Behind src c
+    parsed (tree b) p t = block b p (blockCode b) refl t
+    parsed (refused n) p t = absurd (let z : _≡_ {A = ℕ} 0 1 = cc in omega arith)
+
+    go : (x y : Bool) → elim x as (λ z. Compiled) [ false ↦ notAccepted sourceTooLong | true ↦ elim y as (λ z. Compiled) [ false ↦ notAccepted sourceNotAscii | true ↦ fromTree (parse src) ] ] ≡ accepted c → Behind src c
+    go true true t = parsed (parse src) refl t
+    go true false t = absurd (let z : _≡_ {A = ℕ} 0 1 = cc in omega arith)
+    go false y t = absurd (let z : _≡_ {A = ℕ} 0 1 = cc in omega arith)
+
+-- the shape of every accepted program's code
+pub accepted-shape : (src : List ℕ) (c : List Instr) → compile src ≡ accepted c → Shape maxOpen c
+accepted-shape src c e =
+    let h = behind src c e in
+    block-shape (h .block) maxOpen (parse-nests src (h .block) (h .read)) c (h .rows) (h .next) (h .made)
