@@ -1,1 +1,5 @@
 pub mod Symbols
+pub mod Table
+pub mod Steps
+pub mod Chains
+pub mod Kept

@@ -1,0 +1,4 @@
+pub mod Runs
+pub mod Literals
+pub mod Tables
+pub mod Cases

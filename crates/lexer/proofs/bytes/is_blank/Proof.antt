@@ -1,0 +1,21 @@
+-- `bytes::is_blank` meets its contract.
+use mathlib.Core.Bool.{or-false, or-true}
+use Rattle.numbers.specs.Bytes.{isBlank}
+use borrow.Author.Tests.{eq-eqb, ne-eqb, le-leb, lt-leb}
+use Rattle.lexer.proofs.bytes.is_blank.Statement.{statement}
+use Rattle.lexer.proofs.bytes.is_blank.Tie as tie
+
+returns : tie.Need-returns
+unfolding isBlank
+returns c = simp (eq-eqb _ _ (c .if1 .taken), or-true)
+
+returns-2 : tie.Need-returns-2
+unfolding isBlank
+returns-2 c = simp (ne-eqb _ _ (c .before .if1 .left), lt-leb _ _ (c .if2 .taken))
+
+returns-3 : tie.Need-returns-3
+unfolding isBlank
+returns-3 c = simp (ne-eqb _ _ (c .before .if1 .left), le-leb _ _ (c .if2 .left), or-false)
+
+pub is-blank-spec : {M : Type 1} → statement M
+is-blank-spec = tie.close (tie.spec returns returns-2 returns-3)

@@ -1,0 +1,4 @@
+pub mod Spelling
+pub mod Seeing
+pub mod Search
+pub mod Adding
