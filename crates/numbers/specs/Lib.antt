@@ -7,3 +7,5 @@ pub mod Line
 pub mod Stack
 pub mod Rows
 pub mod Lent
+pub mod Answers
+pub mod OntoLaws

@@ -1,0 +1,6 @@
+pub mod Signs
+pub mod Bits
+pub mod Scans
+pub mod Fields
+pub mod Lines
+pub mod Screens

@@ -1,0 +1,13 @@
+-- `arithmetic::is_greater` meets its contract.
+use mir.Syntax.{w64}
+use mir.ValLaws.{toZ-ofZ}
+use Rattle.numbers.specs.Arithmetic.{compare}
+use Rattle.numbers.proofs.arithmetic.is_greater.Statement.{statement}
+use Rattle.numbers.proofs.arithmetic.is_greater.Tie as tie
+
+returns : tie.Need-returns
+unfolding compare
+returns c = rw (toZ-ofZ w64 (c .args .a) (c .fits .a), toZ-ofZ w64 (c .args .b) (c .fits .b))
+
+pub is-greater-spec : {M : Type 1} → statement M
+is-greater-spec = tie.close (tie.spec returns)
