@@ -131,7 +131,7 @@ walk-fits src input budget room = go (compile src) refl (parse src) refl
     block : (b : Block) (c : List Instr) → compile src ≡ accepted c → parse src ≡ tree b → (ps : Procs) → b .procs ≡ ps → WalkFits room (walkUnless ps (walkBlock b input budget room) input budget)
     block b c e p noProcs none =
         let (rs, a, f) = taken src b c p e in
-        agreed-fits (length (b .vars)) room (walkBlock b input budget room) (runOf c input budget room) (standing b c rs a none f .few) (run-sized c input budget room .out) (block-agrees b c rs a none f input budget room)
+        agreed-fits (length (b .vars)) room (walkBlock b input budget room) (runOf c input budget room) (standing b c rs a none f .few) (run-sized c input budget room .out) (block-agrees b c rs a none f (accepted-shape src c e .most) input budget room)
     block b c e p (proc n ar cs vs ps s l) q = nothing-fits procedureInTree room input budget
 
     go : (x : Compiled) → compile src ≡ x → (t : Parsed) → parse src ≡ t → WalkFits room (walkAfter x t input budget room)

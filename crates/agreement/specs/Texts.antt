@@ -11,13 +11,12 @@ use lib.ListN.{length, getD, take, replicate, length-replicate}
 use lib.Seq.{getD-take}
 use borrow.Author.Tests.{le-leb, ltb-true}
 use Rattle.numbers.specs.Panel.{nameNotFound, wrongKind, sourceTooLong, sourceNotAscii, done}
-use Rattle.numbers.specs.Limits.{maxOpen, maxCode, maxCells, maxRows, maxSource}
+use Rattle.numbers.specs.Limits.{maxCode, maxCells, maxRows, maxSource}
 use Rattle.numbers.specs.Stack.{links}
 use Rattle.numbers.specs.Bytes.{isAscii, every}
 use Rattle.lexer.specs.Tokens.{Name}
 use Rattle.parser.specs.Grammar.{parse, Parsed, tree, refused}
 use Rattle.parser.specs.Refusals.{parse-refuses}
-use Rattle.parser.specs.Depth.{nest-none}
 use Rattle.tree.specs.Tree.{Exp, call, noProcs, Block}
 use Rattle.pcode.specs.Operators.{return}
 use Rattle.pcode.specs.Code.{INT, JMP, Instr, ins}
@@ -28,8 +27,7 @@ use Rattle.translator.specs.Translate.{Done, finished, failed, blockCode, stmtC
 use Rattle.machine.specs.Machine.{Ended, run, runOf, start}
 use Rattle.walk.specs.Walk.{walkMain, Walked, walked, begin, declaredRows, walkBlock}
 use Rattle.engine.specs.Compile.{Compiled, accepted, notAccepted, numberOf, codeOf, compile, fromTree, translated, walkAfter, walkParsed, walkUnless, walk}
-use Rattle.translator.specs.Shape.{block-shape}
-use Rattle.engine.specs.Accepted.{behind}
+use Rattle.engine.specs.Accepted.{behind, accepted-shape}
 use Rattle.agreement.specs.Declared.{const-rows, var-rows, sound-rows}
 use Rattle.agreement.specs.Exprs.{main}
 use Rattle.agreement.specs.InStep.{frame}
@@ -54,10 +52,10 @@ unfolding walkBlock
 walk-is b rs input budget room e = rw e
 
 -- over a block that the translator took
-pub block-agrees : (b : Block) (c : List Instr) (rs : List Row) (a : ℕ) → b .procs ≡ noProcs → blockCode b ≡ finished c rs a
+pub block-agrees : (b : Block) (c : List Instr) (rs : List Row) (a : ℕ) → b .procs ≡ noProcs → blockCode b ≡ finished c rs a → length c ≤ maxCode
     → (input : List ℕ) (budget room : ℕ) → Agrees (length (b .vars)) (walkBlock b input budget room) (runOf c input budget room)
 unfolding start begin
-block-agrees b c rs a none e input budget room = go (standing b c rs a none e)
+block-agrees b c rs a none e small input budget room = go (standing b c rs a none e)
   where
     go : Standing b c → Agrees (length (b .vars)) (walkBlock b input budget room) (runOf c input budget room)
     go s =
@@ -72,7 +70,6 @@ block-agrees b c rs a none e input budget room = go (standing b c rs a none e)
           ends = omega (arith, ap length (s .is));
         } in
         let first : At c 0 (ins JMP 0 (pos 1)) = record { inside = omega (arith, ap length (s .is)); is = rw (s .is) } in
-        let small : length c ≤ maxCode = block-shape b maxOpen (rw none (nest-none maxOpen)) c rs a e .most in
         let low : links + v ≤ maxCells = omega (arith, s .few) in
         let en : Entered c room v (begin (length (b .vars)) input) (replicate maxCells (pos 0)) = record { top = refl; size = length-replicate maxCells (pos 0); low = take-zeros (links + v) maxCells low ∙ zeros-frame v } in
         rw (run-is c input budget room small, walk-is b (s .rs) input budget room (s .declared)) (program-agrees c room v (s .few) (s .rs) (s .sound) (b .main) first whole budget (begin (length (b .vars)) input) (replicate maxCells (pos 0)) en)
@@ -118,7 +115,7 @@ agreement src b z p none input budget room =
     let (rs, a, f) = taken src b (codeOf (compile src)) p e in
     let w : walkAfter (compile src) (parse src) input budget room ≡ walkBlock b input budget room =
     ap (λ x. walkAfter x (parse src) input budget room) e ∙ ap (λ t. walkParsed t input budget room) p ∙ ap (λ ps. walkUnless ps (walkBlock b input budget room) input budget) none in
-    subst (λ x. Agrees (length (b .vars)) x (runOf (codeOf (compile src)) input budget room)) (sym w) (block-agrees b (codeOf (compile src)) rs a none f input budget room)
+    subst (λ x. Agrees (length (b .vars)) x (runOf (codeOf (compile src)) input budget room)) (sym w) (block-agrees b (codeOf (compile src)) rs a none f (accepted-shape src (codeOf (compile src)) e .most) input budget room)
 
 -- such a program has at most 512 variables
 pub few-variables : (src : List ℕ) (b : Block) → numberOf (compile src) ≡ done → parse src ≡ tree b → b .procs ≡ noProcs → length (b .vars) ≤ maxRows

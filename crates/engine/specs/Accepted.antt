@@ -1,6 +1,6 @@
 -- What an accepted text is: its tree was read, and translated to its code. And what that code is, for the readers of demand 2: between 3 and 4,096
--- instructions, of kinds 0 to 8 alone; jumps and calls to within the list; levels of variables and procedures of at most 64.
--- (The level of STA is no level but the number of an argument.)
+-- instructions, of kinds 0 to 8 alone; jumps and calls to within the list; levels of variables and procedures of at most 64; operands within i64.
+-- (The level of STA is no level but the number of an argument, of which there are at most 512.)
 use mathlib.Core.Path.{_≡_, refl}
 use mathlib.Core.Bool.{Bool, true, false}
 use mathlib.Core.List.{List}
@@ -14,6 +14,7 @@ use Rattle.numbers.specs.Bytes.{isAscii, every}
 use Rattle.tree.specs.Tree.{Block}
 use Rattle.parser.specs.Grammar.{parse, Parsed, tree, refused}
 use Rattle.parser.specs.Depth.{parse-nests}
+use Rattle.parser.specs.Names.{parse-named}
 use Rattle.pcode.specs.Code.{Instr}
 use Rattle.symbols.specs.Symbols.{Row}
 use Rattle.translator.specs.Shape.{Shape, block-shape}
@@ -49,4 +50,4 @@ behind src c e = go (leb (length src) maxSource) (every isAscii src) e
 pub accepted-shape : (src : List ℕ) (c : List Instr) → compile src ≡ accepted c → Shape maxOpen c
 accepted-shape src c e =
     let h = behind src c e in
-    block-shape (h .block) maxOpen (parse-nests src (h .block) (h .read)) c (h .rows) (h .next) (h .made)
+    block-shape src (h .block) maxOpen (parse-named src (h .block) (h .read)) (parse-nests src (h .block) (h .read)) c (h .rows) (h .next) (h .made)

@@ -4,11 +4,18 @@ ghost use mathlib.Core.List.{_++_};
 ghost use Prim.Native.Nat.{_-_, _≤_};
 ghost use lib.IntN.{pos, negsuc};
 ghost use lib.ListN.{length, take, replicate};
-ghost use Rattle.numbers.specs.Limits.{maxCode};
+ghost use Rattle.numbers.specs.Limits.{maxCode, treePlaces, tablePlaces, draftPlaces};
 ghost use Rattle.numbers.specs.Lent.{onto};
 
 // The code places that compile fills.
 pub const CODE: usize = 4096;
+
+// The working room.
+pub const TREE: usize = 98400;
+
+pub const TABLE: usize = 6144;
+
+pub const DRAFT: usize = 16384;
 
 // Zeros in the first n places of working room.
 pub fn clear(room: &mut [u32], n: usize)
@@ -20,6 +27,20 @@ pub fn clear(room: &mut [u32], n: usize)
         room[k] = 0;
         k += 1;
     }
+}
+
+// Working room is zero on return.
+pub fn wipe(tree: &mut [u32], table: &mut [u32], draft: &mut [u32])
+    requires { ⌜ treePlaces ≤ length (now tree) ⌝ }
+    requires { ⌜ tablePlaces ≤ length (now table) ⌝ }
+    requires { ⌜ draftPlaces ≤ length (now draft) ⌝ }
+    ensures { λ _. ⌜ now (tree .exit) ≡ onto (now (tree .entry)) (replicate treePlaces 0) ⌝ }
+    ensures { λ _. ⌜ now (table .exit) ≡ onto (now (table .entry)) (replicate tablePlaces 0) ⌝ }
+    ensures { λ _. ⌜ now (draft .exit) ≡ onto (now (draft .entry)) (replicate draftPlaces 0) ⌝ }
+{
+    clear(tree, TREE);
+    clear(table, TABLE);
+    clear(draft, DRAFT);
 }
 
 // NIL in the code places from `from` on.

@@ -1,7 +1,7 @@
 -- The cases of `next_token` and of `Cursor::look`, each as one law over plain values.
 use mathlib.Core.Path.{_≡_, refl, sym, _∙_, ap}
 use mathlib.Core.List.{List, [], _∷_}
-use mathlib.Core.Bool.{Bool, true, false}
+use mathlib.Core.Bool.{true, false}
 use mathlib.Core.Option.{Option, none, some}
 use Prim.Native.Nat.{ℕ, zero, suc, _+_, _-_, _≤_, _<_}
 use Prim.Native.Char.{code}
@@ -16,9 +16,9 @@ use Rattle.numbers.specs.Limits.{maxTokens}
 use Rattle.numbers.specs.Bytes.{isBlank, isDigit, isLetter, isWordByte, span}
 use Rattle.lexer.specs.Marks.{Mark, ifWord, thenWord, elseWord, whileWord, doWord, constWord, varWord, procedureWord, programWord, beginWord, endWord, callWord, readWord, writeWord, oddWord, plusSign, minusSign, timesSign, divideSign, openSign, closeSign, equalSign, semicolonSign, commaSign, lessSign, greaterSign, atMostSign, atLeastSign, unequalSign, becomesSign, keywords, pairs, singles, spelt}
 use Rattle.lexer.specs.Tokens.{Name, mark, name, Found, token, bad, tooBig, endOfText, Lexed as Reading, upTo, wordFound, wordAt, numberAt, signAt, lexHere, lexAt}
-use Rattle.lexer.specs.Spelling.{tokenOf, named, sized, signOf}
+use Rattle.lexer.specs.Spelling.{tokenOf, named, signOf}
 use Rattle.lexer.specs.Meaning.{nameAt, Sight, sees, tooMany, senseless, meaning, Inside, Shows}
-use Rattle.lexer.specs.Stands.{beyond, Beyond, sight, counting, Holds, Looks}
+use Rattle.lexer.specs.Stands.{beyond, Beyond, sight, counting, Looks}
 use Rattle.lexer.specs.Outcomes.{said}
 use Rattle.lexer.specs.declared.token.Token.{Token}
 use Rattle.lexer.specs.declared.token.Token.the-variants.{Identifier, LexicalError, TooMany, EndOfText}

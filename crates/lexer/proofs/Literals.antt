@@ -1,6 +1,6 @@
 -- Laws of literals: a value read digit by digit, which stays above the greatest once it is there.
 use mathlib.Core.Path.{_≡_, refl, sym, _∙_}
-use Prim.Native.Nat.{ℕ, zero, suc, _+_, _*_, _-_, _≤_, _<_}
+use Prim.Native.Nat.{ℕ, suc, _+_, _*_, _-_, _≤_, _<_}
 use Prim.Native.Char.{code}
 use mathlib.Core.List.{List, [], _∷_}
 use mathlib.Core.Bool.{Bool, true, false, _&&_}
@@ -14,12 +14,12 @@ use lib.Seq.{drop-cons}
 use borrow.Author.Tests.{le-leb, lt-leb, leb-true, leb-false}
 use Rattle.numbers.specs.Bytes.{isDigit, span, digits}
 use Rattle.numbers.specs.Limits.{greatest}
-use Rattle.lexer.specs.Tokens.{token, number, tooBig, numberAt}
+use Rattle.lexer.specs.Tokens.{token, numberAt}
 use Rattle.lexer.specs.Meaning.{Shows}
 use Rattle.lexer.specs.Spelling.{greatestBefore, above, withDigit, literalOf}
-use Rattle.lexer.specs.declared.token.Token.the-variants.{Integer, TooBig, Identifier}
+use Rattle.lexer.specs.declared.token.Token.the-variants.{Integer, TooBig}
 use Rattle.lexer.specs.declared.token.Lexed.{Lexed}
-use Rattle.lexer.proofs.Runs.{stop, span-more, span-stop, span-past}
+use Rattle.lexer.proofs.Runs.{span-more, span-stop, span-past}
 
 -- the cases of `withDigit` and `literalOf`
 pub digit-few : (v b : ℕ) → v ≤ greatestBefore → withDigit v b ≡ v * 10 + (b - code "0")

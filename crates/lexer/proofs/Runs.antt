@@ -1,13 +1,14 @@
 -- Laws of `span`, for a scan that goes one byte a turn.
-use mathlib.Core.Path.{_≡_, refl, sym}
-use Prim.Native.Nat.{ℕ, zero, suc, _+_, _≤_, _<_, zero-le, suc-le-suc}
-use mathlib.Core.List.{List, [], _∷_}
+use mathlib.Core.Path.{_≡_}
+use Prim.Native.Nat.{ℕ, suc, _+_, _≤_, _<_}
+use mathlib.Core.List.{List}
 use mathlib.Core.Bool.{Bool, true, false}
 use native.Mathlib.Numerals.{add-one}
 use native.Mathlib.Omega.{arith}
 use lib.ListN.{length, getD, drop, drop-of-length-le, length-drop}
 use lib.Seq.{drop-cons}
 use Rattle.numbers.specs.Bytes.{span}
+use Rattle.lexer.specs.Names.{span-length}
 
 -- where the run from i on ends
 abbrev pub stop : (ℕ → Bool) → List ℕ → ℕ → ℕ
@@ -37,15 +38,5 @@ module _ (p : ℕ → Bool) (s : List ℕ) (at i : ℕ) (inv : stop p s i ≡ st
   run-past h = omega (arith, span-past p s i h)
 
 -- a run ends within the text
-span-cons : (p : ℕ → Bool) (b : ℕ) (s : List ℕ) (x : Bool) → p b ≡ x → span p s ≤ length s → span p (b ∷ s) ≤ length (b ∷ s)
-unfolding span
-span-cons p b s true e h = rw (e, span) (suc-le-suc h)
-span-cons p b s false e h = rw (e, span) zero-le
-
-pub span-length : (p : ℕ → Bool) (s : List ℕ) → span p s ≤ length s
-unfolding span
-span-length p [] = zero-le
-span-length p (b ∷ s) = span-cons p b s (p b) refl (span-length p s)
-
 pub stop-length : (p : ℕ → Bool) (s : List ℕ) (i : ℕ) → i ≤ length s → stop p s i ≤ length s
 stop-length p s i h = omega (arith, span-length p (drop i s), length-drop i s)

@@ -4,7 +4,7 @@ use mathlib.Core.List.{List}
 use Prim.Native.Nat.{ℕ, _+_, _≤_}
 use lib.ListN.{length, take, drop}
 use lib.IntN.{pos, negsuc}
-use Rattle.lexer.specs.Marks.{Mark, ifWord, thenWord, elseWord, whileWord, doWord, constWord, varWord, procedureWord, programWord, beginWord, endWord, callWord, readWord, writeWord, oddWord, plusSign, minusSign, timesSign, divideSign, openSign, closeSign, equalSign, semicolonSign, commaSign, lessSign, greaterSign, atMostSign, atLeastSign, unequalSign, becomesSign}
+use Rattle.lexer.specs.Marks.{ifWord, thenWord, elseWord, whileWord, doWord, constWord, varWord, procedureWord, programWord, beginWord, endWord, callWord, readWord, writeWord, oddWord, plusSign, minusSign, timesSign, divideSign, openSign, closeSign, equalSign, semicolonSign, commaSign, lessSign, greaterSign, atMostSign, atLeastSign, unequalSign, becomesSign}
 use Rattle.lexer.specs.Tokens.{Name, mark, name, number, Found, token, bad, tooBig, endOfText, Lexed as Reading}
 use Rattle.lexer.specs.declared.token.Token.{Token}
 use Rattle.lexer.specs.declared.token.Token.the-variants.{If, Then, Else, While, Do, Const, Var, Procedure, Program, Begin, End, Call, Read, Write, Odd, Add, Sub, Mul, Div, Eq, Lt, Gt, Le, Ge, Ne, EqSign, ParL, ParR, Semicolon, Comma, Identifier, Integer, LexicalError, TooBig, TooMany, EndOfText}

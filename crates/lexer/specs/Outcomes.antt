@@ -4,9 +4,11 @@ use mathlib.Core.Bool.{Bool, true, false}
 use mathlib.Core.List.{List}
 use Prim.Native.Nat.{ℕ, _+_, _-_, _≤_}
 use native.Mathlib.Omega.{arith}
+use lib.Dec.{ltb}
 use lib.IntN.{pos, negsuc}
 use lib.ListN.{length, drop, length-drop}
 use lib.Seq.{length-take-le}
+use Rattle.numbers.specs.Limits.{maxTokens}
 use Rattle.lexer.specs.Tokens.{mark, name, number, Found, token, bad, tooBig, endOfText, Lexed as Reading}
 use Rattle.lexer.specs.Cursor.{Cursor as Place}
 use Rattle.lexer.specs.Spelling.{tokenOf}
@@ -85,3 +87,34 @@ lexed-once src l a b p q =
     let t : a .token ≡ b .token = said src _ _ (p .means) (p .inside) (no-sense _) ∙ sym (said src _ _ (q .means) (q .inside) (no-sense _)) in
     let n : a .next ≡ b .next = p .next ∙ sym (q .next) in
     ap (λ x. lexed x (a .next)) t ∙ ap (lexed (b .token)) n
+
+abbrev held : ℕ → Token → Bool → ℕ → Cursor
+held at t l n = record { at = at; token = t; looked = l; count = n }
+
+sight-sense : (n : ℕ) (f : Found) → sight n f ≡ senseless → ⊥
+unfolding sight
+sight-sense n f e = by (ltb n maxTokens) refl f e
+  where
+    by : (b : Bool) → ltb n maxTokens ≡ b → (f : Found) → sight n f ≡ senseless → ⊥
+    by true q f e = no-sense f (rw (q, sight) at e)
+    by false q (token t) e = absurd (let z : _≡_ {A = ℕ} 0 1 = cc (rw (q, sight) at e) in omega arith)
+    by false q bad e = absurd (let z : _≡_ {A = ℕ} 0 1 = cc (rw (q, sight) at e) in omega arith)
+    by false q tooBig e = absurd (let z : _≡_ {A = ℕ} 0 1 = cc (rw (q, sight) at e) in omega arith)
+    by false q endOfText e = no-sense endOfText (rw (q, sight) at e)
+
+-- one cursor holds the token at a place
+held-once : (src : List ℕ) (k : Place) (a b : Cursor) → Holds src a k → Holds src b k → a ≡ b
+held-once src k a b p q =
+    let t : a .token ≡ b .token = said src _ _ (p .means) (p .inside) (sight-sense _ _) ∙ sym (said src _ _ (q .means) (q .inside) (sight-sense _ _)) in
+    let n : a .at ≡ b .at = p .next ∙ sym (q .next) in
+    let l : a .looked ≡ b .looked = p .looked ∙ sym (q .looked) in
+    let m : a .count ≡ b .count = p .count ∙ sym (q .count) in
+    ap (λ x. held x (a .token) (a .looked) (a .count)) n ∙ ap (λ x. held (b .at) x (a .looked) (a .count)) t ∙ ap (λ x. held (b .at) (b .token) x (a .count)) l ∙ ap (held (b .at) (b .token) (b .looked)) m
+
+-- `look` has one answer
+pub look-once : (src : List ℕ) (c a b : Cursor) → Looks src c a → Looks src c b → a ≡ b
+look-once src c a b p q = by (c .looked) refl
+  where
+    by : (x : Bool) → c .looked ≡ x → a ≡ b
+    by true e = p .again e ∙ sym (q .again e)
+    by false e = held-once src _ a b (p .first e) (q .first e)

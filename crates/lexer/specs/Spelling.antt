@@ -1,5 +1,4 @@
 -- The tokens of the code by their spelling: what the lexer's own functions promise.
-use mathlib.Core.Path.{_≡_}
 use mathlib.Core.Bool.{true, false}
 use mathlib.Core.List.{List, [], _∷_}
 use mathlib.Core.Option.{none, some}

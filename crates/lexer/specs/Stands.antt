@@ -2,14 +2,14 @@
 use mathlib.Core.Path.{_≡_, refl, sym, _∙_}
 use mathlib.Core.Bool.{Bool, true, false}
 use mathlib.Core.List.{List}
-use Prim.Native.Nat.{ℕ, suc, _+_, _-_, _≤_, _<_}
+use Prim.Native.Nat.{ℕ, suc, _+_, _-_, _<_}
 use native.Mathlib.Omega.{arith}
 use lib.Dec.{ltb}
 use borrow.Author.Tests.{ltb-true}
 use Rattle.numbers.specs.Panel.{badToken, literalTooBig, tokenMissing, tooManyTokens}
 use Rattle.numbers.specs.Limits.{maxTokens}
 use Rattle.lexer.specs.Tokens.{Token as Word, Found, token, bad, tooBig, endOfText, lexAt}
-use Rattle.lexer.specs.Cursor.{Cursor as Place, Ans, got, refuse, Reader, counted, judge, look, take}
+use Rattle.lexer.specs.Cursor.{Cursor as Place, got, refuse, Reader, counted, judge, look}
 use Rattle.lexer.specs.Meaning.{Sight, sees, tooMany, senseless, meaning, Inside}
 use Rattle.lexer.specs.declared.token.Token.{Token}
 use Rattle.lexer.specs.declared.token.Token.the-variants.{EndOfText}

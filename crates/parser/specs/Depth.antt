@@ -1,18 +1,16 @@
 -- In a tree that is read from a text, procedures stand at most 64 deep one inside the other.
 use mathlib.Core.Path.{_≡_, refl}
-use mathlib.Core.Bool.{Bool, true, false}
 use mathlib.Core.List.{List}
 use mathlib.Core.Option.{Option, none, some}
 use Prim.Native.Nat.{ℕ, zero, suc, _+_}
 use native.Mathlib.Omega.{arith}
-use lib.Dec.{ltb}
 use borrow.Author.Tests.{ltb-true}
 use Rattle.numbers.specs.Limits.{maxOpen}
-use Rattle.numbers.specs.Panel.{tooManyOpen}
 use Rattle.lexer.specs.Marks.{procedureWord, programWord, openSign, semicolonSign}
 use Rattle.lexer.specs.Tokens.{Name}
 use Rattle.tree.specs.Tree.{Stmts, Const, Procs, noProcs, proc, Block}
-use Rattle.parser.specs.Reader.{Cursor, Ans, got, refuse, Reader, then, pure, fail, enter, isMark, look, take, want, ifNext, wantName}
+use Rattle.parser.specs.Reader.{Cursor, Ans, got, refuse, isMark, look, take, want, ifNext, wantName}
+use Rattle.parser.specs.Gets.{Gets, isGot, isNo, bind, on, test, entering}
 use Rattle.parser.specs.Grammar.{both, mapO, orAbsent, constPart, varPart, argPart, bodyOf, procOf, innerOf, laterOf, program, tree, parsed, parse, fuel}
 
 -- at most d deep
@@ -36,33 +34,6 @@ nest-more (suc d) (proc n ar cs vs inner b later) h = (nest-more d inner (h .0),
 unfoldable NestIf : ℕ → Option Procs → Type 0
 NestIf d none = Unit {0}
 NestIf d (some ps) = Nest d ps
-
--- what a reader gets
-data Gets {A : Type 0} (P : A → Type 0) : Ans A → Type 0 where
-  isGot : {a : A} {c : Cursor} → P a → Gets P (got a c)
-  isNo : {n : ℕ} → Gets P (refuse n)
-
-bind : {A B : Type 0} {P : A → Type 0} {Q : B → Type 0} {a : Ans A} (k : A → Reader B) → Gets P a → ((x : A) → P x → (c : Cursor) → Gets Q (k x c)) → Gets Q (then k a)
-bind k (isGot {a} {c} h) f = f a h c
-bind k isNo f = isNo
-
--- whatever it is
-on : {A B : Type 0} {Q : B → Type 0} (a : Ans A) (k : A → Reader B) → ((x : A) (c : Cursor) → Gets Q (k x c)) → Gets Q (then k a)
-on (got a c) k f = f a c
-on (refuse n) k f = isNo
-
-test : {A : Type 0} {Q : A → Type 0} (x : Bool) (p q : Reader A) → ((c : Cursor) → Gets Q (p c)) → ((c : Cursor) → Gets Q (q c)) → (c : Cursor) → Gets Q ((elim x as (λ y. Reader A) [ true ↦ p | false ↦ q ]) c)
-test true p q h k = h
-test false p q h k = k
-
--- one more opens
-entering : {B : Type 0} {Q : B → Type 0} (o : ℕ) (k : Unit {0} → Reader B) (c : Cursor) → (ltb o maxOpen ≡ true → Gets Q (k tt c)) → Gets Q (then k (enter o c))
-unfolding enter
-entering {B} {Q} o k c h = go (ltb o maxOpen) h
-  where
-    go : (x : Bool) → (x ≡ true → Gets Q (k tt c)) → Gets Q (then k ((elim x as (λ y. Reader (Unit {0})) [ true ↦ pure tt | false ↦ fail tooManyOpen ]) c))
-    go true h = h refl
-    go false h = isNo
 
 joined : (d : ℕ) (n : Name) (ar : List Name) (cs : List Const) (vs : List Name) (inner : Procs) → Nest d inner → (b : Option Stmts) (l : Option Procs) → NestIf (suc d) l → NestIf (suc d) (both (λ x y. proc n ar cs vs inner x y) b l)
 unfolding NestIf Nest both

@@ -2,4 +2,6 @@ pub mod Reader
 pub mod Grammar
 pub mod Rows
 pub mod Refusals
+pub mod Gets
 pub mod Depth
+pub mod Names
