@@ -4,7 +4,7 @@ use crate::rooms::fill_levels;
 use crate::rooms::fill_operands;
 ghost use mathlib.Core.Path.{_≡_};
 ghost use mathlib.Core.List.{List};
-ghost use Prim.Native.Nat.{ℕ, _≤_};
+ghost use Prim.Native.Nat.{_≤_};
 ghost use lib.ListN.{length};
 ghost use Rattle.numbers.specs.Limits.{maxCode};
 ghost use Rattle.numbers.specs.Lent.{onto, filled};

@@ -12,12 +12,11 @@ use lib.Seq.{take-suc-set, length-take-le, getD-take, getD-append-add, getD-at, 
 use borrow.Author.Tests.{lt-ltb, le-ltb, eqb-true, eqb-false}
 use Rattle.numbers.specs.Limits.{maxRows, rowShare}
 use Rattle.numbers.specs.Panel.{nameTaken, tooManyRows}
-use Rattle.numbers.specs.Bytes.{eqList}
 use Rattle.symbols.specs.declared.Added.{Added}
 use Rattle.symbols.specs.declared.Added.the-variants.{Used, Refused}
 use Rattle.symbols.specs.declared.Symbol.{Symbol}
 use Rattle.symbols.specs.Symbols.{procedure, Row, noRow, declared, oneMore, fresh}
-use Rattle.symbols.specs.Table.{part, field, offset, extent, hash, first, scope, kind, nameAt, chain, scopeAt, kindOf, rowAt, rowsIn, hashOf, valueOf, rowOf, Named, Linked, Sound, Kept, Declares, Adds, Became, withValue}
+use Rattle.symbols.specs.Table.{part, field, offset, extent, hash, first, scope, kind, nameAt, scopeAt, kindOf, rowAt, rowsIn, hashOf, valueOf, rowOf, Named, Linked, Sound, Kept, Declares, Adds, Became, withValue}
 use Rattle.symbols.specs.Steps.{Asked, FirstOf, new, known, numbersOf}
 use Rattle.symbols.specs.Chains.{positive, chain-cons, chain-kept, chain-fuel, name-kept, scope-kept}
 use Rattle.symbols.specs.Kept.{rows-length, sound-kept, rows-kept}

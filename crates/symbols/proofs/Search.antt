@@ -3,16 +3,16 @@ use mathlib.Core.Path.{_≡_, refl, sym, ap, _∙_}
 use mathlib.Core.Bool.{Bool, true, false, _&&_}
 use mathlib.Core.List.{List, [], _∷_, _++_}
 use mathlib.Core.Option.{Option, none, some}
-use Prim.Native.Nat.{ℕ, zero, suc, _+_, _-_, _*_, _≤_, _<_}
+use Prim.Native.Nat.{ℕ, zero, suc, _+_, _-_, _≤_, _<_}
 use native.Mathlib.Omega.{arith}
 use lib.Dec.{eqb}
-use lib.ListN.{length, getD}
+use lib.ListN.{length}
 use borrow.Author.Tests.{eq-eqb, ne-eqb, eqb-true, eqb-false}
 use Rattle.numbers.specs.Limits.{maxRows}
 use Rattle.numbers.specs.Bytes.{bytes, eqList}
 use Rattle.symbols.specs.declared.Found.the-variants.{At, Nothing}
-use Rattle.symbols.specs.Symbols.{procedure, Scope, mainScope, Row, isIn, allIn, sameScope, findIn, find, declared}
-use Rattle.symbols.specs.Table.{part, offset, extent, hash, first, scope, kind, nameAt, chain, scopeAt, kindOf, rowAt, rowsIn, hashOf, isHash, firsts, among, allAmong, isOpen, Linked, Sound, Scoped, Seen, Hit, Finds}
+use Rattle.symbols.specs.Symbols.{procedure, Scope, Row, isIn, allIn, sameScope, findIn, find, declared}
+use Rattle.symbols.specs.Table.{part, offset, extent, hash, first, scope, kind, nameAt, chain, scopeAt, kindOf, rowAt, rowsIn, hashOf, isHash, firsts, among, allAmong, isOpen, Sound, Scoped, Seen, Finds}
 use Rattle.symbols.specs.Steps.{Legible, Asked, FirstOf, new, known}
 use Rattle.symbols.specs.Chains.{positive, chain-end, chain-cons, chain-step, firsts-end, firsts-cons}
 use Rattle.symbols.proofs.Spelling.{eq-same, same-eq, hash-differs}

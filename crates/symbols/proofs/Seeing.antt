@@ -1,15 +1,15 @@
 -- Laws of looking from a scope: marks along the chain, then rows that open in order.
 use mathlib.Core.Path.{_≡_, refl, sym, ap, _∙_}
 use mathlib.Core.Bool.{Bool, true, false, not, _&&_}
-use mathlib.Core.List.{List, [], _∷_}
+use mathlib.Core.List.{List, _∷_}
 use Prim.Native.Nat.{ℕ, zero, suc, _+_, _-_, _*_, _≤_, _<_}
 use native.Mathlib.Omega.{arith}
 use lib.Dec.{eqb, ltb}
-use lib.ListN.{length, getD, set, length-set}
+use lib.ListN.{length, set, length-set}
 use lib.Seq.{getD-set-same, getD-set-other}
 use borrow.Author.Tests.{eq-eqb, ne-eqb, eqb-true, eqb-false, ltb-true, ltb-false}
 use Rattle.numbers.specs.Limits.{maxRows, rowShare}
-use Rattle.symbols.specs.Table.{field, first, scope, sight, firsts, among, allAmong, isOpen, rowsIn, Linked, Sound, Kept, Seen, Became}
+use Rattle.symbols.specs.Table.{first, scope, sight, firsts, among, allAmong, isOpen, rowsIn, Linked, Sound, Seen, Became}
 use Rattle.symbols.specs.Steps.{Plain, Cleared, afterMark, Marked, marked, allMarked, Unopened, Opened}
 use Rattle.symbols.specs.Chains.{positive, linked-less, firsts-none, firsts-end, firsts-cons, firsts-step, firsts-fuel}
 use Rattle.symbols.specs.Kept.{sound-kept, rows-kept}

@@ -6,7 +6,7 @@ ghost use mathlib.Core.List.{List};
 ghost use Prim.Native.Nat.{ℕ, _+_, _*_, _≤_, _<_};
 ghost use lib.ListN.{length};
 ghost use Rattle.symbols.specs.Table.{scope as scopeOf, first as firstOf, rowsIn, isOpen, Linked, Sound, Seen, Became};
-ghost use Rattle.symbols.specs.Steps.{Cleared, Marked, Opened, Unopened, Plain, marked};
+ghost use Rattle.symbols.specs.Steps.{Cleared, Marked, Opened, Unopened, marked};
 
 const ROW: usize = 12;
 

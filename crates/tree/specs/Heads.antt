@@ -7,7 +7,7 @@ use lib.ListN.{length, getD}
 use Rattle.numbers.specs.Arithmetic.{Compare}
 use Rattle.lexer.specs.Tokens.{Name}
 use Rattle.tree.specs.Tree.{Exp, lit, ref, neg, chain, brackets, Chain, Cond, isOdd, rel, Stmt, assign, ifThen, ifElse, while, call, body, readS, writeS, Stmts, Const, Procs, noProcs, proc}
-use Rattle.tree.specs.Layout.{NodeKind, negKind, chainKind, bracketsKind, oddKind, comparisonKind, assignKind, ifKind, whileKind, callKind, bodyKind, readKind, writeKind, constantKind, listKind, noProceduresKind, procedureKind, blockKind, Node, word, literal, branch, Nodes, nameNo, numberNo, nodeNo, enc, Stands}
+use Rattle.tree.specs.Layout.{NodeKind, negKind, chainKind, bracketsKind, oddKind, comparisonKind, assignKind, ifKind, whileKind, callKind, bodyKind, readKind, writeKind, constantKind, listKind, noProceduresKind, procedureKind, blockKind, word, literal, branch, Nodes, nameNo, numberNo, nodeNo, enc, Stands}
 use Rattle.tree.specs.Nodes.{expNode, condNode, stmtNode, procsNode, compareNo}
 use Rattle.tree.specs.Reading.{word-at, literal-at, branch-at}
 

@@ -1,6 +1,5 @@
 -- The proof of `add`.
 use borrow.Author.Needs.{needs}
-use native.Mathlib.Omega.{arith}
 use Rattle.symbols.proofs.Search.{asked}
 use Rattle.symbols.proofs.Adding.{add-made, add-full}
 use borrow.Author.Needs.{needs}

@@ -1,5 +1,4 @@
 -- The proof of `first_row`.
-use borrow.Author.Needs.{needs}
 use native.Mathlib.Omega.{arith}
 use Prim.Native.Nat.{_-_}
 use Rattle.symbols.specs.Table.{part}

@@ -1,6 +1,5 @@
 -- The proof of `is_beside`.
 use borrow.Author.Needs.{needs}
-use native.Mathlib.Omega.{arith}
 use Rattle.symbols.proofs.Search.{beside-not, beside-is}
 use borrow.Author.Needs.{needs}
 use Rattle.symbols.proofs.is_beside.Statement.{statement}

@@ -1,5 +1,4 @@
 -- The proof of `after`: a leaf takes four numbers, any other node as many more as its fourth number says.
-use borrow.Author.Needs.{needs}
 use native.Mathlib.Omega.{arith}
 use mathlib.Core.Path.{_∙_, ap}
 use Prim.Native.Nat.{ℕ, _+_}

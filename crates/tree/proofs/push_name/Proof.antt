@@ -1,6 +1,5 @@
 -- The proof of `push_name`.
 use borrow.Author.Needs.{needs}
-use native.Mathlib.Omega.{arith}
 use Rattle.tree.specs.Layout.{enc}
 use borrow.Author.Needs.{needs}
 use Rattle.tree.proofs.push_name.Statement.{statement}

@@ -1,5 +1,4 @@
 -- The proof of `value_at`: a literal is its low half and its high half.
-use borrow.Author.Needs.{needs}
 use native.Mathlib.Omega.{arith}
 use Prim.Native.Nat.{_+_}
 use Rattle.tree.specs.Reading.{literal-at}

@@ -1,6 +1,5 @@
 -- The proof of `hand_out`.
 use borrow.Author.Needs.{needs}
-use native.Mathlib.Omega.{arith}
 use Rattle.pcode.specs.Code.{codeFor, placeFor, kindNo}
 use Rattle.engine.proofs.Leaving.{handed}
 use borrow.Author.Needs.{needs}

@@ -1,10 +1,7 @@
 -- The proof of `same`.
-use borrow.Author.Needs.{needs}
 use native.Mathlib.Omega.{arith}
-use mathlib.Core.Path.{_≡_, sym, ap, _∙_}
-use Prim.Native.Nat.{ℕ, _≤_, _-_}
-use Rattle.numbers.specs.Bytes.{eqList}
-use Rattle.symbols.specs.Table.{part}
+use mathlib.Core.Path.{sym}
+use Prim.Native.Nat.{_≤_, _-_}
 use Rattle.symbols.proofs.Spelling.{Same, other-length, same-start, same-more, same-not, same-end}
 use Rattle.symbols.proofs.names.same.Statement.{statement}
 use Rattle.symbols.proofs.names.same.Tie as tie
