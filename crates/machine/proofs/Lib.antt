@@ -1,0 +1,5 @@
+mod CellLaws
+mod StepLaws
+mod CodeLaws
+mod TalkLaws
+mod RunLaws
