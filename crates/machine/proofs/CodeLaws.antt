@@ -1,7 +1,7 @@
 -- Laws of code: which operator and which kind a number means, and what stands at a place of a code list.
 use mathlib.Core.Path.{_≡_, refl, sym, ap, _∙_}
 use mathlib.Core.List.{List}
-use mathlib.Core.Option.{Option, none, some}
+use mathlib.Core.Option.{none, some}
 use Prim.Native.Nat.{ℕ, zero, suc, _≤_, _<_}
 use native.Mathlib.Omega.{arith}
 use lib.IntN.{ℤ, pos, negsuc}
@@ -17,7 +17,7 @@ use Rattle.pcode.specs.PlaceLaws.{length-instrs, instr-at}
 use Rattle.machine.specs.declared.frames.Frame.{Frame}
 use Rattle.machine.specs.declared.steps.Does.{Does}
 use Rattle.machine.specs.declared.steps.Does.the-variants.{Stop}
-use Rattle.machine.specs.Machine.{Machine, stop, operate, perform, step}
+use Rattle.machine.specs.Machine.{operate, perform, step}
 use Rattle.machine.specs.Frames.{at}
 use Rattle.machine.specs.Steps.{codeOf, Did, oneOf, twoOf}
 

@@ -1,6 +1,5 @@
 -- Laws of runs: a step is counted once it is made, a pause is on the way of the run, and its end is the outcome.
 use mathlib.Core.Path.{_≡_, refl, sym, ap, _∙_}
-use mathlib.Core.Bool.{Bool, true, false}
 use mathlib.Core.List.{List, [], _∷_, _++_, append-nil}
 use Prim.Native.Nat.{ℕ, zero, suc, _+_, _-_, _≤_, _<_, min}
 use native.Mathlib.Nat.{min-le-left, min-le-right}
@@ -26,7 +25,7 @@ use Rattle.machine.specs.declared.runs.Pause.{Pause}
 use Rattle.machine.specs.declared.runs.Pause.the-variants.{Talks, Ends}
 use Rattle.machine.specs.declared.runs.Ended as C
 use Rattle.machine.specs.Machine.{Machine, Step, next, halt, stop, step, Ended, ended, run, start, runOf}
-use Rattle.machine.specs.Outcome.{RunOutcome, runLeaves, runOutcome}
+use Rattle.machine.specs.Outcome.{runLeaves, runOutcome}
 use Rattle.machine.specs.Frames.{Sound, at}
 use Rattle.machine.specs.Steps.{Did, Listed}
 use Rattle.machine.specs.Talks.{taped, Onward, talkOf, Spoke}

@@ -2,26 +2,26 @@
 use mathlib.Core.Path.{_≡_, refl, sym, ap, _∙_}
 use mathlib.Core.Bool.{Bool, true, false}
 use mathlib.Core.List.{List}
-use mathlib.Core.Option.{Option, none, some}
+use mathlib.Core.Option.{none, some}
 use Prim.Native.Nat.{ℕ, zero, suc, _+_, _-_, _≤_, _<_}
 use native.Mathlib.Omega.{arith}
 use native.Mathlib.Numerals.{add-one}
 use lib.IntN.{ℤ, pos, negsuc, natAbs, _-ℤ_}
-use lib.Signed.{ltZ, leZ}
-use lib.Dec.{ltb, leb, eqb}
-use lib.ListN.{length, getD, set}
+use lib.Signed.{ltZ}
+use lib.Dec.{ltb, eqb}
+use lib.ListN.{length, set}
 use borrow.Author.Tests.{ltb-true, ltb-false, lt-ltb, le-ltb, le-leb, lt-leb, eq-eqb, ne-eqb}
 use Rattle.numbers.specs.Panel.{cellOutside, placeOutside}
 use Rattle.numbers.specs.Limits.{maxCode, maxCells}
 use Rattle.numbers.specs.Arithmetic.{Val, val, fault, eqZ}
-use Rattle.pcode.specs.Operators.{Oper, idle, newLine, read}
+use Rattle.pcode.specs.Operators.{idle, newLine, read}
 use Rattle.pcode.specs.Code.{Instr, LOD, STO, STA, INT, RED}
 use Rattle.machine.specs.declared.frames.Frame.{Frame}
 use Rattle.machine.specs.declared.steps.Does.{Does}
 use Rattle.machine.specs.declared.steps.Does.the-variants.{Next, Halt, Stop, Write, NewLine, Read}
-use Rattle.machine.specs.Machine.{Machine, Step, next, halt, stop, cellAt, below, held, from, up, there, with, jumped as jumpedTo, pushed, raised, readingTo, unary, binary, goto, put, writing, reading, returning, operate, calling, testing, perform}
+use Rattle.machine.specs.Machine.{Machine, Step, next, halt, stop, cellAt, held, from, up, with, jumped as jumpedTo, pushed, raised, readingTo, unary, binary, goto, writing, returning, operate, calling, testing, perform}
 use Rattle.machine.specs.Frames.{linksEnd, Sound, at, onward, jumped, framed, fromBy, thereBy}
-use Rattle.machine.specs.Steps.{stepOf, Leaves, Did, inside, went, linked, replacing, oneOf, twoOf}
+use Rattle.machine.specs.Steps.{stepOf, Leaves, Did, inside, went, linked, replacing}
 use Rattle.machine.proofs.CellLaws.{clash, cell-in, cell-out, there-by, below-none, below-some, under-in, under-high, under-out}
 
 module _ (code : List Instr) (room : ℕ) (f : Frame) (cs : List ℤ) where

@@ -1,5 +1,5 @@
 -- Laws of exchanges: bytes behind those already written, and a line taken.
-use mathlib.Core.Path.{_≡_, refl, sym, ap, _∙_}
+use mathlib.Core.Path.{_≡_, refl, sym, _∙_}
 use mathlib.Core.Bool.{Bool, true, false}
 use mathlib.Core.List.{List, _++_, append-assoc}
 use mathlib.Core.Option.{none, some}
@@ -8,7 +8,7 @@ use native.Mathlib.Omega.{arith}
 use native.Mathlib.Numerals.{add-one}
 use lib.IntN.{ℤ}
 use lib.Dec.{leb}
-use lib.ListN.{length, take, drop, set, length-append, length-take, length-drop}
+use lib.ListN.{length, take, drop, set, length-append, length-drop}
 use lib.Seq.{length-take-le, take-at, drop-at}
 use borrow.Author.Tests.{leb-true}
 use Rattle.numbers.specs.Panel.{badEntry, outputFull}
@@ -18,13 +18,12 @@ use Rattle.numbers.specs.Line.{entry}
 use Rattle.numbers.specs.Answers.{Took, Wrote, Kept, spliced}
 use Rattle.pcode.specs.Code.{Instr}
 use Rattle.machine.specs.declared.frames.Frame.{Frame}
-use Rattle.machine.specs.declared.talk.Talk.{Talk}
 use Rattle.machine.specs.declared.talk.Talk.the-variants.{Write, NewLine, Read}
 use Rattle.machine.specs.declared.talk.Tape.{Tape}
 use Rattle.machine.specs.declared.talk.Talked.the-variants.{On, Stop}
-use Rattle.machine.specs.Machine.{Machine, Step, next, stop, put, reading, tookLine}
+use Rattle.machine.specs.Machine.{Step, next, stop, put, reading, tookLine}
 use Rattle.machine.specs.Frames.{Sound, at, onward}
-use Rattle.machine.specs.Talks.{taped, Within, wroteTo, tookTo, talkOf, Onward, Spoke}
+use Rattle.machine.specs.Talks.{taped, Within, wroteTo, tookTo, Onward, Spoke}
 use Rattle.machine.proofs.CellLaws.{clash}
 
 -- a test that was passed or failed

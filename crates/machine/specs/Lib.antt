@@ -6,3 +6,4 @@ pub mod Frames
 pub mod Steps
 pub mod Talks
 pub mod Runs
+pub mod Theorems

@@ -1,14 +1,13 @@
 -- What a run of the code means: the definition's run, and the public outcome.
 use mathlib.Core.Path.{_≡_}
 use mathlib.Core.List.{List, []}
-use Prim.Native.Nat.{ℕ, suc, _-_, _≤_, _<_}
+use Prim.Native.Nat.{ℕ, suc, _-_, _≤_}
 use lib.IntN.{ℤ, pos}
 use lib.ListN.{length}
 use Rattle.numbers.specs.Panel.{done}
 use Rattle.numbers.specs.Lent.{onto}
 use Rattle.pcode.specs.Code.{Instr}
 use Rattle.machine.specs.declared.frames.Frame.{Frame}
-use Rattle.machine.specs.declared.talk.Talk.{Talk}
 use Rattle.machine.specs.declared.runs.Pause.{Pause}
 use Rattle.machine.specs.declared.runs.Pause.the-variants.{Talks, Ends}
 use Rattle.machine.specs.declared.runs.Ended as C

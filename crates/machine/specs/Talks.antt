@@ -1,7 +1,7 @@
 -- What an exchange of the code means: the rest of the definition's step, and what it leaves of cells and output.
 use mathlib.Core.Path.{_≡_}
 use mathlib.Core.List.{List, []}
-use Prim.Native.Nat.{ℕ, suc, _+_, _≤_, _<_}
+use Prim.Native.Nat.{ℕ, suc, _≤_, _<_}
 use lib.IntN.{ℤ, pos}
 use lib.ListN.{length, take, drop}
 use Rattle.numbers.specs.Limits.{maxCells}

@@ -12,7 +12,7 @@ ghost use mathlib.Core.List.{List};
 ghost use Prim.Native.Nat.{ℕ, _<_};
 ghost use lib.IntN.{pos};
 ghost use lib.ListN.{length, set};
-ghost use Rattle.numbers.specs.Limits.{maxCode, maxCells};
+ghost use Rattle.numbers.specs.Limits.{maxCells};
 ghost use Rattle.pcode.specs.Code.{Instr};
 ghost use Rattle.machine.specs.Machine.{up, testing, calling, returning};
 ghost use Rattle.machine.specs.Frames.{linksEnd, Steady, baseOf};
@@ -83,9 +83,9 @@ fn link(cells: &mut [i64], top: usize, base: i64, outer: i64, back: usize)
 }
 
 // CAL: the target is judged before a link is written.
-pub fn cal(cells: &mut [i64], places: usize, level: u16, a: i64, f: Frame) -> Does
+pub fn cal(cells: &mut [i64], places: usize, level: u16, target: i64, f: Frame) -> Does
     requires { ⌜ (length (now cells) ≡ maxCells) × Steady f ⌝ }
-    ensures { λ r. ⌜ ((code : List Instr) (room : ℕ) → length code ≡ places → Did code room (calling code room level a) f (now (cells .entry)) r (now (cells .exit))) ⌝ }
+    ensures { λ r. ⌜ ((code : List Instr) (room : ℕ) → length code ≡ places → Did code room (calling code room level target) f (now (cells .entry)) r (now (cells .exit))) ⌝ }
 {
     let top = f.top;
     let base = f.base;
@@ -95,11 +95,11 @@ pub fn cal(cells: &mut [i64], places: usize, level: u16, a: i64, f: Frame) -> Do
     let Base::At(outer) = outer_base(cells, level, top, base) else {
         return Does::Stop(CELL_OUTSIDE);
     };
-    if !inside(places, a) {
+    if !inside(places, target) {
         return Does::Stop(PLACE_OUTSIDE);
     }
     link(cells, top, base, outer, f.pc + 1);
-    goto(places, a, f.framed(top as i64, top))
+    goto(places, target, f.framed(top as i64, top))
 }
 
 // OPR 0: "a return leaves the arguments".

@@ -13,7 +13,7 @@ use crate::talk::Tape;
 use crate::talk::exchange;
 use pcode::code_length;
 ghost use mathlib.Core.Path.{_≡_};
-ghost use Prim.Native.Nat.{ℕ, _<_};
+ghost use Prim.Native.Nat.{ℕ};
 ghost use lib.IntN.{pos};
 ghost use lib.ListN.{length, replicate};
 ghost use Rattle.numbers.specs.Limits.{maxCells};

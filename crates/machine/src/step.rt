@@ -32,7 +32,7 @@ ghost use mathlib.Core.List.{List};
 ghost use Prim.Native.Nat.{ℕ};
 ghost use lib.ListN.{length};
 ghost use Rattle.numbers.specs.Limits.{maxCells};
-ghost use Rattle.pcode.specs.Code.{Instr, RED, instrsIn};
+ghost use Rattle.pcode.specs.Code.{Instr, RED};
 ghost use Rattle.machine.specs.Machine.{perform, step};
 ghost use Rattle.machine.specs.Frames.{Sound, Steady};
 ghost use Rattle.machine.specs.Steps.{Did, Listed, codeOf};

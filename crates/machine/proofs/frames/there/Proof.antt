@@ -1,6 +1,5 @@
 -- `there`: from the base that many levels up.
 use mathlib.Core.Path.{sym, ap, _∙_}
-use lib.IntN.{ℤ}
 use mir.Syntax.{w64}
 use mir.Val.{SFits}
 use borrow.Author.Needs.{needs}
@@ -10,32 +9,22 @@ use Rattle.machine.specs.Frames.{baseOf, fromBy}
 use Rattle.machine.proofs.CellLaws.{there-none, there-some}
 use Rattle.machine.proofs.frames.there.Statement.{statement}
 use Rattle.machine.proofs.frames.there.Tie as tie
-use Rattle.machine.proofs.frames.there.Reads as reads
-use Rattle.machine.proofs.frames.there.Lts as lts
-use Rattle.machine.proofs.frames.from.Reads as from-reads
-use Rattle.machine.proofs.frames.up.Reads as up-reads
 
--- src/frames.rt:100:23
 up-requires : tie.Need-up-requires
 up-requires c κs = search needs
 
--- src/frames.rt:100:18
 enum-known-b : tie.Need-enum-known-b
 enum-known-b c = search needs
 
--- src/frames.rt:101:9
 enum-told : tie.Need-enum-told
 enum-told c = search needs
 
--- src/frames.rt:101:9
 returns : tie.Need-returns
 returns c = there-none (c .before .before .before .args .cells .now) (c .before .before .before .args .level) (c .before .before .before .args .a) (c .before .before .before .args .base) (sym (plain (λ z. up (c .before .before .before .args .cells .now) (c .before .before .before .args .level) z) (c .before .before .before .args .base) (c .before .before .before .fits .base) (c .before .before .up .ensures)) ∙ ap baseOf (c .enum-told .given .1))
 
--- src/frames.rt:103:5
 from-requires : tie.Need-from-requires
 from-requires c κs = search needs
 
--- src/frames.rt:96:1
 returns-2 : tie.Need-returns-2
 returns-2 c =
     let b = c .before .before .b .given .0 .0 in

@@ -1,7 +1,7 @@
 -- `back`: the links are read where there are cells for them.
 use mathlib.Core.Path.{ap, _∙_}
 use Prim.Native.Nat.{_-_}
-use lib.IntN.{ℤ, pos}
+use lib.IntN.{pos}
 use lib.ListN.{getD}
 use mir.Syntax.{w64}
 use mir.Val.{SFits}
@@ -11,62 +11,45 @@ use Rattle.machine.specs.declared.frames.Frame.{Frame}
 use Rattle.machine.specs.Frames.{framed, fromBy}
 use Rattle.machine.specs.Steps.{went}
 use Rattle.machine.proofs.StepLaws.{back-two, back-out, back-on}
-use borrow.Author.Needs.{needs}
 use Rattle.machine.proofs.jumps.back.Statement.{statement}
 use Rattle.machine.proofs.jumps.back.Tie as tie
-use Rattle.machine.proofs.jumps.back.Reads as reads
-use Rattle.machine.proofs.jumps.back.Lts as lts
-use Rattle.machine.proofs.frames.Frame.framed.Reads as framed-reads
-use Rattle.machine.proofs.frames.from.Reads as from-reads
-use Rattle.machine.proofs.jumps.goto.Reads as goto-reads
 
--- src/jumps.rt:106:9
 from-requires : tie.Need-from-requires
 from-requires c κs = search needs
 
--- src/jumps.rt:108:9
 returns : tie.Need-returns
 returns c =
     let h : SFits w64 (c .before .before .before .args .f .base) = search needs in
     λ code room e. back-out code room e (c .before .before .before .args .f) (c .before .before .before .args .cells .now) (plain (λ z. fromBy z (pos 2)) (c .before .before .before .args .f .base) h (c .before .from .ensures)) (c .if1 .taken)
 
--- src/jumps.rt:110:21
 sub-old : tie.Need-sub-old
 sub-old c =
     let h : SFits w64 (c .before .before .before .args .f .base) = search needs in
     back-two (c .before .before .before .args .f .base) (plain (λ z. fromBy z (pos 2)) (c .before .before .before .args .f .base) h (c .before .from .ensures)) (c .if1 .left)
 
--- src/jumps.rt:110:15
 mul-old : tie.Need-mul-old
 mul-old c = search needs
 
--- src/jumps.rt:110:15
 shared-slice-copy-out-old : tie.Need-shared-slice-copy-out-old
 shared-slice-copy-out-old c = search needs
 
--- src/jumps.rt:111:18
 mul-goto : tie.Need-mul-goto
 mul-goto c = search needs
 
--- src/jumps.rt:111:18
 shared-slice-copy-out-goto : tie.Need-shared-slice-copy-out-goto
 shared-slice-copy-out-goto c = search needs
 
--- src/jumps.rt:111:42
 sub-framed : tie.Need-sub-framed
 sub-framed c =
     let h : SFits w64 (c .before .before .before .before .before .args .f .base) = search needs in
     back-two (c .before .before .before .before .before .args .f .base) (plain (λ z. fromBy z (pos 2)) (c .before .before .before .before .before .args .f .base) h (c .before .before .before .from .ensures)) (c .before .before .if1 .left)
 
--- src/jumps.rt:111:28
 framed-requires : tie.Need-framed-requires
 framed-requires c κs = search needs
 
--- src/jumps.rt:111:5
 goto-requires : tie.Need-goto-requires
 goto-requires c κs = search needs
 
--- src/jumps.rt:101:1
 returns-2 : tie.Need-returns-2
 returns-2 c =
     let h : SFits w64 (c .before .before .before .before .before .before .before .args .f .base) = search needs in

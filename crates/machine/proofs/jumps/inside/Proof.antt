@@ -1,5 +1,5 @@
 -- `inside`: the target is compared once it is known not to be negative.
-use lib.IntN.{ℤ, pos}
+use lib.IntN.{pos}
 use lib.Signed.{ltZ}
 use mir.Syntax.{w64}
 use mir.ValLaws.{toZ-ofZ}
@@ -7,18 +7,13 @@ use Rattle.machine.proofs.CellLaws.{read, whole}
 use Rattle.machine.proofs.StepLaws.{inside-low, inside-whole}
 use Rattle.machine.proofs.jumps.inside.Statement.{statement}
 use Rattle.machine.proofs.jumps.inside.Tie as tie
-use Rattle.machine.proofs.jumps.inside.Reads as reads
-use Rattle.machine.proofs.jumps.inside.Lts as lts
 
--- src/jumps.rt:24:9
 returns : tie.Need-returns
 returns c = inside-low (c .before .args .places) (c .before .args .a) (read (λ z. ltZ z (pos 0)) (c .before .args .a) (c .before .fits .a) (c .if1 .taken))
 
--- src/jumps.rt:26:14
 cast-to : tie.Need-cast-to
 cast-to c = rw (toZ-ofZ w64 (c .before .args .a) (c .before .fits .a)) (whole (c .before .args .a) (c .before .fits .a) (read (λ z. ltZ z (pos 0)) (c .before .args .a) (c .before .fits .a) (c .if1 .left)))
 
--- src/jumps.rt:20:1
 returns-2 : tie.Need-returns-2
 returns-2 c = rw (toZ-ofZ w64 (c .before .args .a) (c .before .fits .a)) (inside-whole (c .before .args .places) (c .before .args .a) (read (λ z. ltZ z (pos 0)) (c .before .args .a) (c .before .fits .a) (c .if1 .left)))
 

@@ -1,7 +1,7 @@
 -- `jpc`: no value, a jump, or on.
 use mathlib.Core.Path.{sym, _∙_}
 use Prim.Native.Nat.{_-_}
-use lib.IntN.{ℤ, pos}
+use lib.IntN.{pos}
 use lib.ListN.{getD}
 use mir.Syntax.{w64}
 use mir.Val.{SFits, ofZ}
@@ -11,35 +11,24 @@ use Rattle.numbers.proofs.Bits.{plain, same-bits, from-bits}
 use Rattle.machine.specs.Steps.{went}
 use Rattle.machine.proofs.CellLaws.{some-top}
 use Rattle.machine.proofs.StepLaws.{jpc-none, jpc-jump, jpc-on}
-use borrow.Author.Needs.{needs}
 use Rattle.machine.proofs.jumps.jpc.Statement.{statement}
 use Rattle.machine.proofs.jumps.jpc.Tie as tie
-use Rattle.machine.proofs.jumps.jpc.Reads as reads
-use Rattle.machine.proofs.jumps.jpc.Lts as lts
-use Rattle.machine.proofs.frames.Frame.onward.Reads as onward-reads
-use Rattle.machine.proofs.jumps.goto.Reads as goto-reads
 
--- src/jumps.rt:50:9
 returns : tie.Need-returns
 returns c = λ code room e. jpc-none code room e (c .before .args .f) (c .before .args .cells .now) (c .before .args .a) (c .if1 .taken)
 
--- src/jumps.rt:52:14
 sub-if2 : tie.Need-sub-if2
 sub-if2 c = search needs
 
--- src/jumps.rt:52:8
 mul-if2 : tie.Need-mul-if2
 mul-if2 c = search needs
 
--- src/jumps.rt:52:8
 shared-slice-copy-out-if2 : tie.Need-shared-slice-copy-out-if2
 shared-slice-copy-out-if2 c = search needs
 
--- src/jumps.rt:53:9
 goto-requires : tie.Need-goto-requires
 goto-requires c κs = search needs
 
--- src/jumps.rt:53:9
 returns-2 : tie.Need-returns-2
 returns-2 c =
     let z = getD (c .before .before .before .before .args .cells .now) (c .before .before .before .before .args .f .top - 1) (pos 0) in
@@ -47,11 +36,9 @@ returns-2 c =
     let k : SFits w64 (pos 0) = search needs in
     λ code room e. jpc-jump code room e (c .before .before .before .before .args .f) (c .before .before .before .before .args .cells .now) (c .before .before .before .before .args .a) (c .before .before .before .before .pre .1 .top) (some-top (c .before .before .before .if1 .left)) (from-bits z (pos 0) h k (c .before .if2 .taken)) (plain (λ z. went (c .before .before .before .before .args .places) z (c .before .before .before .before .args .f)) (c .before .before .before .before .args .a) (c .before .before .before .before .fits .a) (c .goto .ensures))
 
--- src/jumps.rt:55:16
 onward-requires : tie.Need-onward-requires
 onward-requires c κs = search needs
 
--- src/jumps.rt:44:1
 returns-3 : tie.Need-returns-3
 returns-3 c =
     let z = getD (c .before .before .before .before .args .cells .now) (c .before .before .before .before .args .f .top - 1) (pos 0) in

@@ -8,50 +8,37 @@ use mir.ValLaws.{toZ-ofZ}
 use borrow.Author.Needs.{needs}
 use Rattle.machine.proofs.jumps.link.Statement.{statement}
 use Rattle.machine.proofs.jumps.link.Tie as tie
-use Rattle.machine.proofs.jumps.link.Reads as reads
-use Rattle.machine.proofs.jumps.link.Lts as lts
 
--- src/jumps.rt:75:5
 mul-base : tie.Need-mul-base
 mul-base c = search needs
 
--- src/jumps.rt:75:5
 slice-set-from-base : tie.Need-slice-set-from-base
 slice-set-from-base c = search needs
 
--- src/jumps.rt:76:11
 add-outer : tie.Need-add-outer
 add-outer c = search needs
 
--- src/jumps.rt:76:5
 mul-outer : tie.Need-mul-outer
 mul-outer c = search needs
 
--- src/jumps.rt:76:5
 slice-set-from-outer : tie.Need-slice-set-from-outer
 slice-set-from-outer c = simp length-set (omega (arith, c .pre))
 
--- src/jumps.rt:77:22
 cast-cells : tie.Need-cast-cells
 cast-cells c = search needs
 
--- src/jumps.rt:77:11
 add-t6 : tie.Need-add-t6
 add-t6 c = search needs
 
--- src/jumps.rt:77:5
 mul-t8 : tie.Need-mul-t8
 mul-t8 c = search needs
 
--- src/jumps.rt:77:5
 slice-set-from-cells : tie.Need-slice-set-from-cells
 slice-set-from-cells c = simp length-set (omega (arith, c .pre))
 
--- src/jumps.rt:71:1
 same-length : tie.Need-same-length
 same-length c = search needs
 
--- src/jumps.rt:71:1
 returns : tie.Need-returns
 returns c =
     let h : SFits w64 (pos (c .args .back)) = record { sfits = omega (arith, c .pre) } in

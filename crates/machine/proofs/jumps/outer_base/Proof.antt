@@ -9,43 +9,31 @@ use borrow.Author.Needs.{needs}
 use Rattle.machine.proofs.CellLaws.{set-back}
 use Rattle.machine.proofs.jumps.outer_base.Statement.{statement}
 use Rattle.machine.proofs.jumps.outer_base.Tie as tie
-use Rattle.machine.proofs.jumps.outer_base.Reads as reads
-use Rattle.machine.proofs.jumps.outer_base.Lts as lts
-use Rattle.machine.proofs.frames.up.Reads as up-reads
 
--- src/jumps.rt:63:15
 mul-old : tie.Need-mul-old
 mul-old c = search needs
 
--- src/jumps.rt:63:15
 slice-copy-out-old : tie.Need-slice-copy-out-old
 slice-copy-out-old c = search needs
 
--- src/jumps.rt:64:5
 mul-base : tie.Need-mul-base
 mul-base c = search needs
 
--- src/jumps.rt:64:5
 slice-set-from-base : tie.Need-slice-set-from-base
 slice-set-from-base c = search needs
 
--- src/jumps.rt:65:9
 up-requires : tie.Need-up-requires
 up-requires c κs = simp length-set (c .before .before .pre .0)
 
--- src/jumps.rt:66:5
 mul-old-2 : tie.Need-mul-old-2
 mul-old-2 c = search needs
 
--- src/jumps.rt:66:5
 slice-set-from-old : tie.Need-slice-set-from-old
 slice-set-from-old c = simp length-set (omega (arith, c .before .before .before .pre))
 
--- src/jumps.rt:59:1
 same-length : tie.Need-same-length
 same-length c = simp length-set
 
--- src/jumps.rt:59:1
 returns : tie.Need-returns
 returns c =
     let cs = c .before .before .before .args .cells .now in

@@ -1,6 +1,6 @@
 -- `binary`: the operator's value on the two values on top.
 use Prim.Native.Nat.{_-_}
-use lib.IntN.{ℤ, pos}
+use lib.IntN.{pos}
 use lib.ListN.{getD}
 use mir.Syntax.{w64}
 use mir.Val.{SFits}
@@ -9,55 +9,39 @@ use borrow.Author.Needs.{needs}
 use Rattle.numbers.proofs.Bits.{plain-2}
 use Rattle.machine.specs.Steps.{twoOf}
 use Rattle.machine.proofs.StepLaws.{binary-none, binary-on}
-use borrow.Author.Needs.{needs}
 use Rattle.machine.proofs.opr.binary.Statement.{statement}
 use Rattle.machine.proofs.opr.binary.Tie as tie
-use Rattle.machine.proofs.opr.binary.Reads as reads
-use Rattle.machine.proofs.opr.binary.Lts as lts
-use Rattle.machine.proofs.opr.replace.Reads as replace-reads
-use Rattle.machine.proofs.opr.two.Reads as two-reads
 
--- src/opr.rt:88:9
 returns : tie.Need-returns
 returns c = λ code room p e. binary-none code room (c .before .args .f) (c .before .args .cells .now) (twoOf p) (c .if1 .taken)
 
--- src/opr.rt:90:20
 mul-two : tie.Need-mul-two
 mul-two c = search needs
 
--- src/opr.rt:90:20
 slice-copy-out-two : tie.Need-slice-copy-out-two
 slice-copy-out-two c = search needs
 
--- src/opr.rt:90:42
 sub-two : tie.Need-sub-two
 sub-two c = search needs
 
--- src/opr.rt:90:36
 mul-two-2 : tie.Need-mul-two-2
 mul-two-2 c = search needs
 
--- src/opr.rt:90:36
 slice-copy-out-two-2 : tie.Need-slice-copy-out-two-2
 slice-copy-out-two-2 c = search needs
 
--- src/opr.rt:90:9
 two-requires : tie.Need-two-requires
 two-requires c κs = search needs
 
--- src/opr.rt:91:29
 sub-replace : tie.Need-sub-replace
 sub-replace c = search needs
 
--- src/opr.rt:91:5
 replace-requires : tie.Need-replace-requires
 replace-requires c κs = search needs
 
--- src/opr.rt:82:1
 same-length : tie.Need-same-length
 same-length c = search needs
 
--- src/opr.rt:82:1
 returns-2 : tie.Need-returns-2
 returns-2 c =
     let x = getD (c .before .before .before .before .before .before .before .args .cells .now) (c .before .before .before .before .before .before .before .args .f .top - 2) (pos 0) in

@@ -1,6 +1,5 @@
 -- `one`: the number says which operator, and each meets its definition.
 use mathlib.Core.Path.{ap, _∙_}
-use lib.IntN.{ℤ}
 use mir.Syntax.{w64}
 use mir.Val.{SFits, ofZ}
 use mir.ValLaws.{toZ-ofZ}
@@ -9,34 +8,24 @@ use Rattle.numbers.specs.Arithmetic.{negated, oddness}
 use Rattle.numbers.proofs.Bits.{plain}
 use Rattle.pcode.specs.Operators.{negate, odd}
 use Rattle.machine.proofs.CodeLaws.{same-oper, one-rest}
-use borrow.Author.Needs.{needs}
 use Rattle.machine.proofs.opr.one.Statement.{statement}
 use Rattle.machine.proofs.opr.one.Tie as tie
-use Rattle.machine.proofs.opr.one.Reads as reads
-use Rattle.machine.proofs.opr.one.Lts as lts
-use Rattle.numbers.proofs.arithmetic.negate.Reads as negate-reads
-use Rattle.numbers.proofs.arithmetic.remainder.Reads as remainder-reads
 
--- src/opr.rt:26:19
 negate-requires : tie.Need-negate-requires
 negate-requires c κs = search needs
 
--- src/opr.rt:27:30
 remainder-requires : tie.Need-remainder-requires
 remainder-requires c κs = search needs
 
--- src/opr.rt:22:1
 returns : tie.Need-returns
 returns c = λ p e. rw (same-oper p negate e (c .before .match .keys1)) (plain (λ z. negated z) (c .before .before .args .x) (c .before .before .fits .x) (c .negate .ensures))
 
--- src/opr.rt:22:1
 returns-2 : tie.Need-returns-2
 returns-2 c =
     let r = c .remainder .result in
     let h : SFits w64 r = search needs in
     λ p e. rw (same-oper p odd e (c .before .match .keys2), toZ-ofZ w64 r h) (plain (λ z. oddness z) (c .before .before .args .x) (c .before .before .fits .x) (c .remainder .ensures))
 
--- src/opr.rt:22:1
 returns-3 : tie.Need-returns-3
 returns-3 c = λ p e. let w = ap (ofZ w64) e in one-rest p (c .before .args .x) (λ k. (c .match .rest .0 .1) (w ∙ k)) (λ k. (c .match .rest .1) (w ∙ k))
 

@@ -2,14 +2,10 @@
 use Rattle.machine.proofs.StepLaws.{read-out, read-on}
 use Rattle.machine.proofs.opr.read.Statement.{statement}
 use Rattle.machine.proofs.opr.read.Tie as tie
-use Rattle.machine.proofs.opr.read.Reads as reads
-use Rattle.machine.proofs.opr.read.Lts as lts
 
--- src/opr.rt:131:9
 returns : tie.Need-returns
 returns c = λ code room cells. read-out code room (c .before .args .f) cells (c .if1 .taken)
 
--- src/opr.rt:125:1
 returns-2 : tie.Need-returns-2
 returns-2 c = λ code room cells. read-on code room (c .before .args .f) cells (c .before .pre .pc) (c .if1 .left)
 

@@ -1,6 +1,5 @@
 -- `two`: the number says which operator, and each meets its definition.
 use mathlib.Core.Path.{ap, _∙_}
-use lib.IntN.{ℤ}
 use mir.Syntax.{w64}
 use mir.Val.{ofZ}
 use Rattle.numbers.specs.Arithmetic.{add, sub, mul, div, equal, unequal, less, atLeast, greater, atMost, arith, compare}
@@ -11,125 +10,85 @@ use Rattle.machine.proofs.CodeLaws.{same-oper, two-rest}
 use borrow.Author.Needs.{needs}
 use Rattle.machine.proofs.opr.two.Statement.{statement}
 use Rattle.machine.proofs.opr.two.Tie as tie
-use Rattle.machine.proofs.opr.two.Reads as reads
-use Rattle.machine.proofs.opr.two.Lts as lts
-use Rattle.machine.proofs.opr.flag.Reads as flag-reads
-use Rattle.numbers.proofs.arithmetic.add.Reads as add-reads
-use Rattle.numbers.proofs.arithmetic.div.Reads as div-reads
-use Rattle.numbers.proofs.arithmetic.is_at_least.Reads as is-at-least-reads
-use Rattle.numbers.proofs.arithmetic.is_at_most.Reads as is-at-most-reads
-use Rattle.numbers.proofs.arithmetic.is_equal.Reads as is-equal-reads
-use Rattle.numbers.proofs.arithmetic.is_greater.Reads as is-greater-reads
-use Rattle.numbers.proofs.arithmetic.is_less.Reads as is-less-reads
-use Rattle.numbers.proofs.arithmetic.is_unequal.Reads as is-unequal-reads
-use Rattle.numbers.proofs.arithmetic.mul.Reads as mul-reads
-use Rattle.numbers.proofs.arithmetic.sub.Reads as sub-reads
 
--- src/opr.rt:42:16
 add-requires : tie.Need-add-requires
 add-requires c κs = search needs
 
--- src/opr.rt:43:16
 sub-requires : tie.Need-sub-requires
 sub-requires c κs = search needs
 
--- src/opr.rt:44:16
 mul-requires : tie.Need-mul-requires
 mul-requires c κs = search needs
 
--- src/opr.rt:45:16
 div-requires : tie.Need-div-requires
 div-requires c κs = search needs
 
--- src/opr.rt:46:23
 is-equal-requires : tie.Need-is-equal-requires
 is-equal-requires c κs = search needs
 
--- src/opr.rt:46:18
 flag-requires : tie.Need-flag-requires
 flag-requires c κs = search needs
 
--- src/opr.rt:47:25
 is-unequal-requires : tie.Need-is-unequal-requires
 is-unequal-requires c κs = search needs
 
--- src/opr.rt:47:20
 flag-requires-2 : tie.Need-flag-requires-2
 flag-requires-2 c κs = search needs
 
--- src/opr.rt:48:22
 is-less-requires : tie.Need-is-less-requires
 is-less-requires c κs = search needs
 
--- src/opr.rt:48:17
 flag-requires-3 : tie.Need-flag-requires-3
 flag-requires-3 c κs = search needs
 
--- src/opr.rt:49:26
 is-at-least-requires : tie.Need-is-at-least-requires
 is-at-least-requires c κs = search needs
 
--- src/opr.rt:49:21
 flag-requires-4 : tie.Need-flag-requires-4
 flag-requires-4 c κs = search needs
 
--- src/opr.rt:50:25
 is-greater-requires : tie.Need-is-greater-requires
 is-greater-requires c κs = search needs
 
--- src/opr.rt:50:20
 flag-requires-5 : tie.Need-flag-requires-5
 flag-requires-5 c κs = search needs
 
--- src/opr.rt:51:25
 is-at-most-requires : tie.Need-is-at-most-requires
 is-at-most-requires c κs = search needs
 
--- src/opr.rt:51:20
 flag-requires-6 : tie.Need-flag-requires-6
 flag-requires-6 c κs = search needs
 
--- src/opr.rt:38:1
 returns : tie.Need-returns
 returns c = λ p e. rw (same-oper p (arithmetic add) e (c .before .match .keys1)) (plain-2 (λ a b. arith add a b) (c .before .before .args .x) (c .before .before .args .y) (c .before .before .fits .x) (c .before .before .fits .y) (c .add .ensures))
 
--- src/opr.rt:38:1
 returns-2 : tie.Need-returns-2
 returns-2 c = λ p e. rw (same-oper p (arithmetic sub) e (c .before .match .keys2)) (plain-2 (λ a b. arith sub a b) (c .before .before .args .x) (c .before .before .args .y) (c .before .before .fits .x) (c .before .before .fits .y) (c .sub .ensures))
 
--- src/opr.rt:38:1
 returns-3 : tie.Need-returns-3
 returns-3 c = λ p e. rw (same-oper p (arithmetic mul) e (c .before .match .keys3)) (plain-2 (λ a b. arith mul a b) (c .before .before .args .x) (c .before .before .args .y) (c .before .before .fits .x) (c .before .before .fits .y) (c .mul .ensures))
 
--- src/opr.rt:38:1
 returns-4 : tie.Need-returns-4
 returns-4 c = λ p e. rw (same-oper p (arithmetic div) e (c .before .match .keys4)) (plain-2 (λ a b. arith div a b) (c .before .before .args .x) (c .before .before .args .y) (c .before .before .fits .x) (c .before .before .fits .y) (c .div .ensures))
 
--- src/opr.rt:38:1
 returns-5 : tie.Need-returns-5
 returns-5 c = λ p e. rw (same-oper p (comparison equal) e (c .before .before .match .keys5)) (c .flag .ensures ∙ ap flagged (plain-2 (λ a b. compare equal a b) (c .before .before .before .args .x) (c .before .before .before .args .y) (c .before .before .before .fits .x) (c .before .before .before .fits .y) (c .before .is-equal .ensures)))
 
--- src/opr.rt:38:1
 returns-6 : tie.Need-returns-6
 returns-6 c = λ p e. rw (same-oper p (comparison unequal) e (c .before .before .match .keys6)) (c .flag2 .ensures ∙ ap flagged (plain-2 (λ a b. compare unequal a b) (c .before .before .before .args .x) (c .before .before .before .args .y) (c .before .before .before .fits .x) (c .before .before .before .fits .y) (c .before .is-unequal .ensures)))
 
--- src/opr.rt:38:1
 returns-7 : tie.Need-returns-7
 returns-7 c = λ p e. rw (same-oper p (comparison less) e (c .before .before .match .keys7)) (c .flag3 .ensures ∙ ap flagged (plain-2 (λ a b. compare less a b) (c .before .before .before .args .x) (c .before .before .before .args .y) (c .before .before .before .fits .x) (c .before .before .before .fits .y) (c .before .is-less .ensures)))
 
--- src/opr.rt:38:1
 returns-8 : tie.Need-returns-8
 returns-8 c = λ p e. rw (same-oper p (comparison atLeast) e (c .before .before .match .keys8)) (c .flag4 .ensures ∙ ap flagged (plain-2 (λ a b. compare atLeast a b) (c .before .before .before .args .x) (c .before .before .before .args .y) (c .before .before .before .fits .x) (c .before .before .before .fits .y) (c .before .is-at-least .ensures)))
 
--- src/opr.rt:38:1
 returns-9 : tie.Need-returns-9
 returns-9 c = λ p e. rw (same-oper p (comparison greater) e (c .before .before .match .keys9)) (c .flag5 .ensures ∙ ap flagged (plain-2 (λ a b. compare greater a b) (c .before .before .before .args .x) (c .before .before .before .args .y) (c .before .before .before .fits .x) (c .before .before .before .fits .y) (c .before .is-greater .ensures)))
 
--- src/opr.rt:38:1
 returns-10 : tie.Need-returns-10
 returns-10 c = λ p e. rw (same-oper p (comparison atMost) e (c .before .before .match .keys10)) (c .flag6 .ensures ∙ ap flagged (plain-2 (λ a b. compare atMost a b) (c .before .before .before .args .x) (c .before .before .before .args .y) (c .before .before .before .fits .x) (c .before .before .before .fits .y) (c .before .is-at-most .ensures)))
 
--- src/opr.rt:38:1
 returns-11 : tie.Need-returns-11
 returns-11 c = λ p e. let w = ap (ofZ w64) e in two-rest p (c .before .args .x) (c .before .args .y) (λ k. (c .match .rest .0 .0 .0 .0 .0 .0 .0 .0 .0 .1) (w ∙ k)) (λ k. (c .match .rest .0 .0 .0 .0 .0 .0 .0 .0 .1) (w ∙ k)) (λ k. (c .match .rest .0 .0 .0 .0 .0 .0 .0 .1) (w ∙ k)) (λ k. (c .match .rest .0 .0 .0 .0 .0 .0 .1) (w ∙ k)) (λ k. (c .match .rest .0 .0 .0 .0 .0 .1) (w ∙ k)) (λ k. (c .match .rest .0 .0 .0 .0 .1) (w ∙ k)) (λ k. (c .match .rest .0 .0 .0 .1) (w ∙ k)) (λ k. (c .match .rest .0 .0 .1) (w ∙ k)) (λ k. (c .match .rest .0 .1) (w ∙ k)) (λ k. (c .match .rest .1) (w ∙ k))
 

@@ -1,6 +1,6 @@
 -- `unary`: the operator's value on the value on top.
 use Prim.Native.Nat.{_-_}
-use lib.IntN.{ℤ, pos}
+use lib.IntN.{pos}
 use lib.ListN.{getD}
 use mir.Syntax.{w64}
 use mir.Val.{SFits}
@@ -10,47 +10,33 @@ use Rattle.numbers.proofs.Bits.{plain}
 use Rattle.machine.specs.Steps.{oneOf}
 use Rattle.machine.proofs.CellLaws.{some-top}
 use Rattle.machine.proofs.StepLaws.{unary-none, unary-on}
-use borrow.Author.Needs.{needs}
 use Rattle.machine.proofs.opr.unary.Statement.{statement}
 use Rattle.machine.proofs.opr.unary.Tie as tie
-use Rattle.machine.proofs.opr.unary.Reads as reads
-use Rattle.machine.proofs.opr.unary.Lts as lts
-use Rattle.machine.proofs.opr.one.Reads as one-reads
-use Rattle.machine.proofs.opr.replace.Reads as replace-reads
 
--- src/opr.rt:76:9
 returns : tie.Need-returns
 returns c = λ code room p e. unary-none code room (c .before .args .f) (c .before .args .cells .now) (oneOf p) (c .if1 .taken)
 
--- src/opr.rt:78:26
 sub-one : tie.Need-sub-one
 sub-one c = search needs
 
--- src/opr.rt:78:20
 mul-one : tie.Need-mul-one
 mul-one c = search needs
 
--- src/opr.rt:78:20
 slice-copy-out-one : tie.Need-slice-copy-out-one
 slice-copy-out-one c = search needs
 
--- src/opr.rt:78:9
 one-requires : tie.Need-one-requires
 one-requires c κs = search needs
 
--- src/opr.rt:79:20
 sub-replace : tie.Need-sub-replace
 sub-replace c = search needs
 
--- src/opr.rt:79:5
 replace-requires : tie.Need-replace-requires
 replace-requires c κs = search needs
 
--- src/opr.rt:70:1
 same-length : tie.Need-same-length
 same-length c = search needs
 
--- src/opr.rt:70:1
 returns-2 : tie.Need-returns-2
 returns-2 c =
     let x = getD (c .before .before .before .before .before .before .args .cells .now) (c .before .before .before .before .before .before .args .f .top - 1) (pos 0) in

@@ -8,29 +8,21 @@ use mir.ValLaws.{toZ-ofZ}
 use borrow.Author.Needs.{needs}
 use Rattle.machine.proofs.CellLaws.{some-top}
 use Rattle.machine.proofs.StepLaws.{write-none, write-on}
-use borrow.Author.Needs.{needs}
 use Rattle.machine.proofs.opr.write.Statement.{statement}
 use Rattle.machine.proofs.opr.write.Tie as tie
-use Rattle.machine.proofs.opr.write.Reads as reads
-use Rattle.machine.proofs.opr.write.Lts as lts
 
--- src/opr.rt:101:9
 returns : tie.Need-returns
 returns c = λ code room. write-none code room (c .before .args .f) (c .before .args .cells .now) (c .if1 .taken)
 
--- src/opr.rt:103:23
 sub-t5 : tie.Need-sub-t5
 sub-t5 c = search needs
 
--- src/opr.rt:103:17
 mul-t6 : tie.Need-mul-t6
 mul-t6 c = search needs
 
--- src/opr.rt:103:17
 shared-slice-copy-out-t8 : tie.Need-shared-slice-copy-out-t8
 shared-slice-copy-out-t8 c = search needs
 
--- src/opr.rt:95:1
 returns-2 : tie.Need-returns-2
 returns-2 c =
     let z = getD (c .before .before .args .cells .now) (c .before .before .args .f .top - 1) (pos 0) in

@@ -10,10 +10,6 @@ use Rattle.machine.specs.Runs.{pausedOf, leftOf}
 use Rattle.machine.proofs.RunLaws.{Live, live-first, live-ends, live-stops, live-on, leaving-from}
 use Rattle.machine.proofs.runs.counted.Statement.{statement}
 use Rattle.machine.proofs.runs.counted.Tie as tie
-use Rattle.machine.proofs.runs.counted.Reads as reads
-use Rattle.machine.proofs.runs.counted.Lts as lts
-use Rattle.machine.proofs.runs.quiet.Reads as quiet-reads
-use Rattle.machine.proofs.talk.exchange.Reads as exchange-reads
 
 abbrev Inv-loop : tie.InvT-loop
 Inv-loop kinds levels operands input budget out₀ cells₀ places t₀ p₀ out cells t p = Live (codeOf kinds levels operands) input budget out₀ (pausedOf (codeOf kinds levels operands) (length out₀) p₀ cells₀ (taped t₀ out₀ input)) t p cells out
@@ -21,91 +17,72 @@ Inv-loop kinds levels operands input budget out₀ cells₀ places t₀ p₀ out
 abbrev μ-loop : tie.MeasureT-loop
 μ-loop kinds levels operands input budget out₀ cells₀ places t₀ p₀ out cells t p = leftOf p
 
--- src/runs.rt:100:9
 quiet-requires : tie.Need-quiet-requires Inv-loop μ-loop
 quiet-requires c κs = (c .before .before .before .before .pre .0, c .before .before .before .before .pre .1, omega arith)
 
--- src/runs.rt:101:5
 loop-holds : tie.Need-loop-holds Inv-loop μ-loop
 loop-holds c =
     let start : Tape = record { at = 0; out = 0; lines = 0 } in
     live-first (codeOf (c .before .before .before .before .before .before .args .kinds .now) (c .before .before .before .before .before .before .args .levels .now) (c .before .before .before .before .before .before .args .operands .now)) (c .before .before .before .before .before .before .args .input .now) (c .before .before .before .before .before .before .args .budget) (c .before .before .before .before .before .before .args .out .now) start (c .before .quiet .result) (c .before .quiet .last .1 .1 .1 .0) (c .before .quiet .kept .1 .1 .1 .0 ∙ c .before .before .before .before .before .before .pre .1) (omega arith) (omega (arith, c .before .quiet .ensures 0 .less)) (c .before .quiet .ensures 0 .rests)
 
--- src/runs.rt:103:25
 enum-known-p : tie.Need-enum-known-p Inv-loop μ-loop
 enum-known-p c = search needs
 
--- src/runs.rt:108:28
 sub-t22 : tie.Need-sub-t22 Inv-loop μ-loop
 sub-t22 c = let v = rw (c .before .p .given .1) at (c .before .before .before .loop .inv) in omega (arith, v .count)
 
--- src/runs.rt:104:17
 same-length : tie.Need-same-length Inv-loop μ-loop
 same-length c = c .before .before .before .loop .inv .size
 
--- src/runs.rt:104:17
 same-length-2 : tie.Need-same-length-2 Inv-loop μ-loop
 same-length-2 c = c .before .before .before .loop .inv .cells ∙ sym (c .before .before .before .before .before .before .before .before .before .before .pre .1)
 
--- src/runs.rt:104:17
 returns : tie.Need-returns Inv-loop μ-loop
 returns c =
     let start : Tape = record { at = 0; out = 0; lines = 0 } in
     leaving-from (c .before .before .before .before .before .quiet .ensures (length (c .before .before .before .before .before .before .before .before .before .before .args .out .now)) .tells (taped start (c .before .before .before .before .before .before .before .before .before .before .args .out .now) (c .before .before .before .before .before .before .before .before .before .before .args .input .now))) (live-ends (codeOf (c .before .before .before .before .before .before .before .before .before .before .args .kinds .now) (c .before .before .before .before .before .before .before .before .before .before .args .levels .now) (c .before .before .before .before .before .before .before .before .before .before .args .operands .now)) (c .before .before .before .before .before .before .before .before .before .before .args .input .now) (c .before .before .before .before .before .before .before .before .before .before .args .budget) (c .before .before .before .before .before .before .before .before .before .before .args .out .now) (pausedOf (codeOf (c .before .before .before .before .before .before .before .before .before .before .args .kinds .now) (c .before .before .before .before .before .before .before .before .before .before .args .levels .now) (c .before .before .before .before .before .before .before .before .before .before .args .operands .now)) (length (c .before .before .before .before .before .before .before .before .before .before .args .out .now)) (c .before .before .before .before .before .quiet .result) (c .before .before .before .before .before .quiet .last .1 .1 .1 .0) (taped start (c .before .before .before .before .before .before .before .before .before .before .args .out .now) (c .before .before .before .before .before .before .before .before .before .before .args .input .now))) (rw (c .before .p .given .1) at (c .before .before .before .loop .inv)))
 
--- src/runs.rt:111:26
 enum-known-p-2 : tie.Need-enum-known-p-2 Inv-loop μ-loop
 enum-known-p-2 c = search needs
 
--- src/runs.rt:111:47
 exchange-requires : tie.Need-exchange-requires Inv-loop μ-loop
 exchange-requires c κs =
     let v = rw (c .before .before .before .p2 .given .1) at (c .before .before .before .before .before .loop .inv) in
     (v .cells, v .rests .0, v .within, v .rests .1, omega (arith, v .count, c .before .before .before .before .before .before .before .before .before .before .before .before .fits .budget))
 
--- src/runs.rt:112:28
 enum-known-g : tie.Need-enum-known-g Inv-loop μ-loop
 enum-known-g c = search needs
 
--- src/runs.rt:114:21
 quiet-requires-2 : tie.Need-quiet-requires-2 Inv-loop μ-loop
 quiet-requires-2 c κs =
     let v = rw (c .before .before .before .before .before .before .before .before .before .before .before .p2 .given .1) at (c .before .before .before .before .before .before .before .before .before .before .before .before .before .loop .inv) in
     let d = rw (c .before .before .g .given .1) at (c .before .before .before .before .before .before .before .exchange .ensures) in
     (c .before .before .before .before .before .before .before .before .before .before .before .before .before .before .before .before .before .before .before .before .pre .0, c .before .before .before .before .before .before .before .exchange .kept .1 .0 ∙ v .cells, d .leaves .top)
 
--- src/runs.rt:101:5
 loop-less : tie.Need-loop-less Inv-loop μ-loop
 loop-less c = rw (c .before .before .before .before .before .before .before .before .before .before .before .before .before .p2 .given .1) (omega (arith, c .before .quiet2 .ensures 0 .less))
 
--- src/runs.rt:101:5
 loop-again : tie.Need-loop-again Inv-loop μ-loop
 loop-again c =
     let start : Tape = record { at = 0; out = 0; lines = 0 } in
     let v = rw (c .before .before .before .before .before .before .before .before .before .before .before .before .before .p2 .given .1) at (c .before .before .before .before .before .before .before .before .before .before .before .before .before .before .before .loop .inv) in
     live-on (codeOf (c .before .before .before .before .before .before .before .before .before .before .before .before .before .before .before .before .before .before .before .before .before .before .args .kinds .now) (c .before .before .before .before .before .before .before .before .before .before .before .before .before .before .before .before .before .before .before .before .before .before .args .levels .now) (c .before .before .before .before .before .before .before .before .before .before .before .before .before .before .before .before .before .before .before .before .before .before .args .operands .now)) (c .before .before .before .before .before .before .before .before .before .before .before .before .before .before .before .before .before .before .before .before .before .before .args .input .now) (c .before .before .before .before .before .before .before .before .before .before .before .before .before .before .before .before .before .before .before .before .before .before .args .budget) (c .before .before .before .before .before .before .before .before .before .before .before .before .before .before .before .before .before .before .before .before .before .before .args .out .now) (pausedOf (codeOf (c .before .before .before .before .before .before .before .before .before .before .before .before .before .before .before .before .before .before .before .before .before .before .args .kinds .now) (c .before .before .before .before .before .before .before .before .before .before .before .before .before .before .before .before .before .before .before .before .before .before .args .levels .now) (c .before .before .before .before .before .before .before .before .before .before .before .before .before .before .before .before .before .before .before .before .before .before .args .operands .now)) (length (c .before .before .before .before .before .before .before .before .before .before .before .before .before .before .before .before .before .before .before .before .before .before .args .out .now)) (c .before .before .before .before .before .before .before .before .before .before .before .before .before .before .before .before .before .quiet .result) (c .before .before .before .before .before .before .before .before .before .before .before .before .before .before .before .before .before .quiet .last .1 .1 .1 .0) (taped start (c .before .before .before .before .before .before .before .before .before .before .before .before .before .before .before .before .before .before .before .before .before .before .args .out .now) (c .before .before .before .before .before .before .before .before .before .before .before .before .before .before .before .before .before .before .before .before .before .before .args .input .now))) v (rw (c .before .before .before .before .g .given .1) at (c .before .before .before .before .before .before .before .before .before .exchange .ensures)) (c .before .quiet2 .kept .1 .1 .1 .0 ∙ c .before .before .before .before .before .before .before .before .before .exchange .kept .1 .0 ∙ v .cells) (c .before .quiet2 .ensures (length (c .before .before .before .before .before .before .before .before .before .before .before .before .before .before .before .before .before .before .before .before .before .before .args .out .now)))
 
--- src/runs.rt:116:30
 enum-known-n : tie.Need-enum-known-n Inv-loop μ-loop
 enum-known-n c = search needs
 
--- src/runs.rt:121:32
 sub-t30 : tie.Need-sub-t30 Inv-loop μ-loop
 sub-t30 c = let v = rw (c .before .before .before .before .before .before .before .before .before .before .p2 .given .1) at (c .before .before .before .before .before .before .before .before .before .before .before .before .loop .inv) in omega (arith, v .count)
 
--- src/runs.rt:121:32
 sub-t31 : tie.Need-sub-t31 Inv-loop μ-loop
 sub-t31 c = let v = rw (c .before .before .before .before .before .before .before .before .before .before .p2 .given .1) at (c .before .before .before .before .before .before .before .before .before .before .before .before .loop .inv) in omega (arith, v .count)
 
--- src/runs.rt:117:21
 same-length-3 : tie.Need-same-length-3 Inv-loop μ-loop
 same-length-3 c = c .before .before .before .before .before .before .exchange .kept .1 .1 .1 .0 ∙ c .before .before .before .before .before .before .before .before .before .before .before .before .loop .inv .size
 
--- src/runs.rt:117:21
 same-length-4 : tie.Need-same-length-4 Inv-loop μ-loop
 same-length-4 c = c .before .before .before .before .before .before .exchange .kept .1 .0 ∙ c .before .before .before .before .before .before .before .before .before .before .before .before .loop .inv .cells ∙ sym (c .before .before .before .before .before .before .before .before .before .before .before .before .before .before .before .before .before .before .before .pre .1)
 
--- src/runs.rt:117:21
 returns-2 : tie.Need-returns-2 Inv-loop μ-loop
 returns-2 c =
     let start : Tape = record { at = 0; out = 0; lines = 0 } in

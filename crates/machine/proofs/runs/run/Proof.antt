@@ -7,79 +7,57 @@ use lib.ListN.{drop}
 use borrow.Author.Needs.{needs}
 use Rattle.pcode.specs.PlaceLaws.{length-instrs}
 use Rattle.machine.proofs.RunLaws.{listed, first-length, cleared, zeroed-first, zeroed-size, zeroed-rest, outcome-small, outcome-many, outcome-run}
-use borrow.Author.Needs.{needs}
 use Rattle.machine.proofs.runs.run.Statement.{statement}
 use Rattle.machine.proofs.runs.run.Tie as tie
-use Rattle.machine.proofs.runs.run.Reads as reads
-use Rattle.machine.proofs.runs.run.Lts as lts
-use Rattle.machine.proofs.runs.counted.Reads as counted-reads
-use Rattle.machine.proofs.runs.refused.Reads as refused-reads
-use Rattle.machine.proofs.runs.zero.Reads as zero-reads
-use Rattle.pcode.proofs.code_length.Reads as code-length-reads
 
--- src/runs.rt:164:9
 refused-requires : tie.Need-refused-requires
 refused-requires c κs = search needs
 
--- src/runs.rt:164:9
 returns : tie.Need-returns
 returns c = outcome-small (record { kinds = c .before .before .before .before .before .args .kinds .now; levels = c .before .before .before .before .before .args .levels .now; operands = c .before .before .before .before .before .args .operands .now }) (c .before .before .before .before .before .args .input .now) (c .before .before .before .before .before .args .budget) (c .before .before .before .before .before .args .out .now) (c .before .before .before .before .before .args .cells .now) (c .refused .result) (c .before .if1 .taken) (c .refused .ensures)
 
--- src/runs.rt:166:10
 slice-relend-prefix-zero : tie.Need-slice-relend-prefix-zero
 slice-relend-prefix-zero c = search needs
 
--- src/runs.rt:166:10
 slice-aggregate-zero : tie.Need-slice-aggregate-zero
 slice-aggregate-zero c = sym (first-length (c .before .before .before .before .before .args .cells .now) (c .before .if1 .left))
 
--- src/runs.rt:166:5
 zero-requires : tie.Need-zero-requires
 zero-requires c κs = search needs
 
--- src/runs.rt:167:9
 code-length-requires : tie.Need-code-length-requires
 code-length-requires c κs = search needs
 
--- src/runs.rt:169:9
 refused-requires-2 : tie.Need-refused-requires-2
 refused-requires-2 c κs = search needs
 
--- src/runs.rt:169:9
 same-length : tie.Need-same-length
 same-length c = search needs
 
--- src/runs.rt:169:9
 returns-2 : tie.Need-returns-2
 returns-2 c =
     let e = cleared (c .before .before .before .before .before .before .before .before .before .before .args .cells .now) (c .before .before .before .before .before .before .if1 .left) (c .before .before .before .before .zero .ensures) in
     outcome-many (record { kinds = c .before .before .before .before .before .before .before .before .before .before .args .kinds .now; levels = c .before .before .before .before .before .before .before .before .before .before .args .levels .now; operands = c .before .before .before .before .before .before .before .before .before .before .args .operands .now }) (c .before .before .before .before .before .before .before .before .before .before .args .input .now) (c .before .before .before .before .before .before .before .before .before .before .args .budget) (c .before .before .before .before .before .before .before .before .before .before .args .out .now) (c .before .before .before .before .before .before .before .before .before .before .args .cells .now) (c .refused2 .result) (c .before .before .before .before .before .before .if1 .left) (omega (arith, c .before .if2 .taken, c .before .before .code-length .ensures, length-instrs (c .before .before .before .before .before .before .before .before .before .before .args .kinds .now) (c .before .before .before .before .before .before .before .before .before .before .args .levels .now) (c .before .before .before .before .before .before .before .before .before .before .args .operands .now))) (c .refused2 .ensures) (ap (λ (l : List ℤ). l ++ drop 4096 (c .before .before .before .before .before .before .before .before .before .before .args .cells .now)) e)
 
--- src/runs.rt:178:9
 slice-relend-prefix-counted : tie.Need-slice-relend-prefix-counted
 slice-relend-prefix-counted c = search needs
 
--- src/runs.rt:178:9
 slice-aggregate-counted : tie.Need-slice-aggregate-counted
 slice-aggregate-counted c =
     let e = cleared (c .before .before .before .before .before .before .before .before .before .before .before .args .cells .now) (c .before .before .before .before .before .before .before .if1 .left) (c .before .before .before .before .before .zero .ensures) in
     sym (zeroed-size (c .before .before .before .before .before .before .before .before .before .before .before .args .cells .now) (c .before .before .before .before .before .before .before .if1 .left) e)
 
--- src/runs.rt:171:5
 counted-requires : tie.Need-counted-requires
 counted-requires c κs =
     let e = cleared (c .before .before .before .before .before .before .before .before .before .before .before .args .cells .now) (c .before .before .before .before .before .before .before .if1 .left) (c .before .before .before .before .before .zero .ensures) in
     (listed (c .before .before .before .before .before .before .before .before .before .before .before .args .kinds .now) (c .before .before .before .before .before .before .before .before .before .before .before .args .levels .now) (c .before .before .before .before .before .before .before .before .before .before .before .args .operands .now) (c .before .before .before .code-length .ensures) (c .before .before .if2 .left), zeroed-size (c .before .before .before .before .before .before .before .before .before .before .before .args .cells .now) (c .before .before .before .before .before .before .before .if1 .left) e)
 
--- src/runs.rt:152:1
 same-length-2 : tie.Need-same-length-2
 same-length-2 c = search needs
 
--- src/runs.rt:152:1
 same-length-3 : tie.Need-same-length-3
 same-length-3 c = search needs
 
--- src/runs.rt:152:1
 returns-3 : tie.Need-returns-3
 returns-3 c =
     let e = cleared (c .before .before .before .before .before .before .before .before .before .before .before .before .before .before .before .args .cells .now) (c .before .before .before .before .before .before .before .before .before .before .before .if1 .left) (c .before .before .before .before .before .before .before .before .before .zero .ensures) in

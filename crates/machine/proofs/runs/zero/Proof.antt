@@ -9,8 +9,6 @@ use borrow.Author.Needs.{needs}
 use Rattle.machine.proofs.RunLaws.{fill-more, fill-all}
 use Rattle.machine.proofs.runs.zero.Statement.{statement}
 use Rattle.machine.proofs.runs.zero.Tie as tie
-use Rattle.machine.proofs.runs.zero.Reads as reads
-use Rattle.machine.proofs.runs.zero.Lts as lts
 
 abbrev Inv-loop : tie.InvT-loop
 Inv-loop cells₀ i₀ cells i = (i ≤ length cells) × (length cells ≡ length cells₀) × (cells ≡ replicate i (pos 0) ++ drop i cells₀)
@@ -18,35 +16,27 @@ Inv-loop cells₀ i₀ cells i = (i ≤ length cells) × (length cells ≡ lengt
 abbrev μ-loop : tie.MeasureT-loop
 μ-loop cells₀ i₀ cells i = length cells - i
 
--- src/runs.rt:133:5
 loop-holds : tie.Need-loop-holds Inv-loop μ-loop
 loop-holds c = (omega arith, refl, refl)
 
--- src/runs.rt:134:9
 mul-cells : tie.Need-mul-cells Inv-loop μ-loop
 mul-cells c = search needs
 
--- src/runs.rt:134:9
 slice-set-of-cells : tie.Need-slice-set-of-cells Inv-loop μ-loop
 slice-set-of-cells c = omega arith
 
--- src/runs.rt:135:13
 add-i : tie.Need-add-i Inv-loop μ-loop
 add-i c = omega (arith, c .before .before .good)
 
--- src/runs.rt:133:5
 loop-less : tie.Need-loop-less Inv-loop μ-loop
 loop-less c = simp length-set (omega arith)
 
--- src/runs.rt:133:5
 loop-again : tie.Need-loop-again Inv-loop μ-loop
 loop-again c = (simp length-set (omega arith), simp length-set (c .before .loop .inv .1), rw (c .before .loop .inv .2) (fill-more (c .before .loop .i) (pos 0) (c .before .before .args .cells .now) (omega arith)))
 
--- src/runs.rt:129:1
 same-length : tie.Need-same-length Inv-loop μ-loop
 same-length c = c .before .loop .inv .1
 
--- src/runs.rt:129:1
 returns : tie.Need-returns Inv-loop μ-loop
 returns c = c .before .loop .inv .2 ∙ fill-all (c .before .loop .i) (pos 0) (c .before .before .args .cells .now) (omega arith)
 

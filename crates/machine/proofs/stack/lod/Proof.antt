@@ -1,5 +1,5 @@
 -- `lod`: the cell's value is pushed.
-use lib.IntN.{ℤ, pos}
+use lib.IntN.{pos}
 use lib.ListN.{getD}
 use mir.Syntax.{w64}
 use mir.Val.{SFits}
@@ -10,42 +10,30 @@ use Rattle.machine.specs.Frames.{thereBy}
 use Rattle.machine.proofs.StepLaws.{lod-out, lod-on}
 use Rattle.machine.proofs.stack.lod.Statement.{statement}
 use Rattle.machine.proofs.stack.lod.Tie as tie
-use Rattle.machine.proofs.stack.lod.Reads as reads
-use Rattle.machine.proofs.stack.lod.Lts as lts
-use Rattle.machine.proofs.frames.there.Reads as there-reads
-use Rattle.machine.proofs.stack.push.Reads as push-reads
 
--- src/stack.rt:34:9
 there-requires : tie.Need-there-requires
 there-requires c κs = search needs
 
--- src/stack.rt:36:9
 same-length : tie.Need-same-length
 same-length c = search needs
 
--- src/stack.rt:36:9
 returns : tie.Need-returns
 returns c =
     let h : SFits w64 (c .before .before .before .before .args .f .base) = search needs in
     λ code room. lod-out code room (c .before .before .before .before .args .f) (c .before .before .before .before .args .cells .now) (c .before .before .before .before .args .level) (c .before .before .before .before .args .a) (plain-2 (λ x y. thereBy (c .before .before .before .before .args .cells .now) (c .before .before .before .before .args .level) x y) (c .before .before .before .before .args .a) (c .before .before .before .before .args .f .base) (c .before .before .before .before .fits .a) h (c .before .there .ensures)) (c .if1 .taken)
 
--- src/stack.rt:38:13
 mul-z : tie.Need-mul-z
 mul-z c = search needs
 
--- src/stack.rt:38:13
 slice-copy-out-z : tie.Need-slice-copy-out-z
 slice-copy-out-z c = search needs
 
--- src/stack.rt:39:5
 push-requires : tie.Need-push-requires
 push-requires c κs = search needs
 
--- src/stack.rt:29:1
 same-length-2 : tie.Need-same-length-2
 same-length-2 c = search needs
 
--- src/stack.rt:29:1
 returns-2 : tie.Need-returns-2
 returns-2 c =
     let h : SFits w64 (c .before .before .before .before .before .before .before .before .args .f .base) = search needs in

@@ -5,35 +5,25 @@ use Rattle.machine.proofs.StepLaws.{push-out, push-on}
 use borrow.Author.Needs.{needs}
 use Rattle.machine.proofs.stack.push.Statement.{statement}
 use Rattle.machine.proofs.stack.push.Tie as tie
-use Rattle.machine.proofs.stack.push.Reads as reads
-use Rattle.machine.proofs.stack.push.Lts as lts
-use Rattle.machine.proofs.frames.Frame.onward.Reads as onward-reads
 
--- src/stack.rt:23:9
 returns : tie.Need-returns
 returns c = λ code room. push-out code room (c .before .args .f) (c .before .args .cells .now) (c .before .args .z) (c .if1 .taken)
 
--- src/stack.rt:25:5
 mul-z : tie.Need-mul-z
 mul-z c = search needs
 
--- src/stack.rt:25:5
 slice-set-from-z : tie.Need-slice-set-from-z
 slice-set-from-z c = search needs
 
--- src/stack.rt:26:25
 add-onward : tie.Need-add-onward
 add-onward c = search needs
 
--- src/stack.rt:26:16
 onward-requires : tie.Need-onward-requires
 onward-requires c κs = search needs
 
--- src/stack.rt:17:1
 same-length : tie.Need-same-length
 same-length c = search needs
 
--- src/stack.rt:17:1
 returns-2 : tie.Need-returns-2
 returns-2 c = λ code room. rw (c .onward .ensures, toZ-ofZ w64 (c .before .before .args .z) (c .before .before .fits .z)) (push-on code room (c .before .before .args .f) (c .before .before .args .cells .now) (c .before .before .args .z) (c .before .if1 .left))
 

@@ -1,6 +1,6 @@
 -- `sto`: the value on top goes to the cell.
 use Prim.Native.Nat.{_-_}
-use lib.IntN.{ℤ, pos}
+use lib.IntN.{pos}
 use lib.ListN.{getD}
 use mir.Syntax.{w64}
 use mir.Val.{SFits}
@@ -12,62 +12,45 @@ use Rattle.machine.proofs.CellLaws.{some-top}
 use Rattle.machine.proofs.StepLaws.{sto-none, sto-out, sto-on}
 use Rattle.machine.proofs.stack.sto.Statement.{statement}
 use Rattle.machine.proofs.stack.sto.Tie as tie
-use Rattle.machine.proofs.stack.sto.Reads as reads
-use Rattle.machine.proofs.stack.sto.Lts as lts
-use Rattle.machine.proofs.frames.Frame.onward.Reads as onward-reads
-use Rattle.machine.proofs.frames.there.Reads as there-reads
 
--- src/stack.rt:48:9
 returns : tie.Need-returns
 returns c = λ code room. sto-none code room (c .before .args .f) (c .before .args .cells .now) (c .before .args .level) (c .before .args .a) (c .if1 .taken)
 
--- src/stack.rt:51:9
 there-requires : tie.Need-there-requires
 there-requires c κs = search needs
 
--- src/stack.rt:53:9
 same-length : tie.Need-same-length
 same-length c = search needs
 
--- src/stack.rt:53:9
 returns-2 : tie.Need-returns-2
 returns-2 c =
     let h : SFits w64 (c .before .before .before .before .before .args .f .base) = search needs in
     λ code room. sto-out code room (c .before .before .before .before .before .args .f) (c .before .before .before .before .before .args .cells .now) (c .before .before .before .before .before .args .level) (c .before .before .before .before .before .args .a) (some-top (c .before .before .before .before .if1 .left)) (plain-2 (λ x y. thereBy (c .before .before .before .before .before .args .cells .now) (c .before .before .before .before .before .args .level) x y) (c .before .before .before .before .before .args .a) (c .before .before .before .before .before .args .f .base) (c .before .before .before .before .before .fits .a) h (c .before .there .ensures)) (c .if2 .taken)
 
--- src/stack.rt:55:22
 sub-cells : tie.Need-sub-cells
 sub-cells c = some-top (c .before .before .before .before .if1 .left)
 
--- src/stack.rt:55:16
 mul-cells : tie.Need-mul-cells
 mul-cells c = search needs
 
--- src/stack.rt:55:16
 slice-copy-out-cells : tie.Need-slice-copy-out-cells
 slice-copy-out-cells c = search needs
 
--- src/stack.rt:55:5
 mul-t15 : tie.Need-mul-t15
 mul-t15 c = search needs
 
--- src/stack.rt:55:5
 slice-set-from-cells : tie.Need-slice-set-from-cells
 slice-set-from-cells c = search needs
 
--- src/stack.rt:56:25
 sub-onward : tie.Need-sub-onward
 sub-onward c = some-top (c .before .before .before .before .before .if1 .left)
 
--- src/stack.rt:56:16
 onward-requires : tie.Need-onward-requires
 onward-requires c κs = search needs
 
--- src/stack.rt:42:1
 same-length-2 : tie.Need-same-length-2
 same-length-2 c = search needs
 
--- src/stack.rt:42:1
 returns-3 : tie.Need-returns-3
 returns-3 c =
     let h : SFits w64 (c .before .before .before .before .before .before .before .args .f .base) = search needs in

@@ -1,5 +1,4 @@
 -- `red`: the cell is handed on.
-use lib.IntN.{ℤ}
 use mir.Syntax.{w64}
 use mir.Val.{SFits}
 use borrow.Author.Needs.{needs}
@@ -8,27 +7,20 @@ use Rattle.machine.specs.Frames.{thereBy}
 use Rattle.machine.proofs.StepLaws.{red-out, red-high, red-on}
 use Rattle.machine.proofs.step.red.Statement.{statement}
 use Rattle.machine.proofs.step.red.Tie as tie
-use Rattle.machine.proofs.step.red.Reads as reads
-use Rattle.machine.proofs.step.red.Lts as lts
-use Rattle.machine.proofs.frames.there.Reads as there-reads
 
--- src/step.rt:26:9
 there-requires : tie.Need-there-requires
 there-requires c κs = search needs
 
--- src/step.rt:28:9
 returns : tie.Need-returns
 returns c =
     let h : SFits w64 (c .before .before .before .args .f .base) = search needs in
     λ code room. red-out code room (c .before .before .before .args .f) (c .before .before .before .args .cells .now) (c .before .before .before .args .level) (c .before .before .before .args .a) (plain-2 (λ x y. thereBy (c .before .before .before .args .cells .now) (c .before .before .before .args .level) x y) (c .before .before .before .args .a) (c .before .before .before .args .f .base) (c .before .before .before .fits .a) h (c .before .there .ensures)) (c .if1 .taken)
 
--- src/step.rt:31:9
 returns-2 : tie.Need-returns-2
 returns-2 c =
     let h : SFits w64 (c .before .before .before .before .args .f .base) = search needs in
     λ code room. red-high code room (c .before .before .before .before .args .f) (c .before .before .before .before .args .cells .now) (c .before .before .before .before .args .level) (c .before .before .before .before .args .a) (plain-2 (λ x y. thereBy (c .before .before .before .before .args .cells .now) (c .before .before .before .before .args .level) x y) (c .before .before .before .before .args .a) (c .before .before .before .before .args .f .base) (c .before .before .before .before .fits .a) h (c .before .before .there .ensures)) (c .before .if1 .left) (c .if2 .taken)
 
--- src/step.rt:20:1
 returns-3 : tie.Need-returns-3
 returns-3 c =
     let h : SFits w64 (c .before .before .before .before .args .f .base) = search needs in

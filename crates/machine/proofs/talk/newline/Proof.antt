@@ -1,48 +1,33 @@
 -- `newline`: one byte, where it fits.
 use borrow.Author.Needs.{needs}
 use Rattle.machine.proofs.TalkLaws.{line-on, line-full}
-use borrow.Author.Needs.{needs}
 use Rattle.machine.proofs.talk.newline.Statement.{statement}
 use Rattle.machine.proofs.talk.newline.Tie as tie
-use Rattle.machine.proofs.talk.newline.Reads as reads
-use Rattle.machine.proofs.talk.newline.Lts as lts
-use Rattle.machine.proofs.frames.Frame.onward.Reads as onward-reads
-use Rattle.machine.proofs.talk.Tape.wrote.Reads as wrote-reads
-use Rattle.numbers.proofs.screen.put_newline.Reads as put-newline-reads
 
--- src/talk.rt:76:24
 put-newline-requires : tie.Need-put-newline-requires
 put-newline-requires c κs = search needs
 
--- src/talk.rt:76:17
 enum-known-end : tie.Need-enum-known-end
 enum-known-end c = search needs
 
--- src/talk.rt:77:9
 enum-told : tie.Need-enum-told
 enum-told c = search needs
 
--- src/talk.rt:77:9
 same-length : tie.Need-same-length
 same-length c = search needs
 
--- src/talk.rt:77:9
 returns : tie.Need-returns
 returns c = λ input cells. line-full input (c .before .before .before .before .before .before .before .args .f) (c .before .before .before .before .before .before .before .args .t) cells (c .before .before .before .before .before .before .before .args .out .now) (c .before .before .before .before .before .before .before .pre .0 .top) (c .before .before .before .before .before .before .before .pre .1) (rw (c .enum-told .given .1) at (c .before .before .before .before .put-newline .ensures))
 
--- src/talk.rt:79:16
 onward-requires : tie.Need-onward-requires
 onward-requires c κs = search needs
 
--- src/talk.rt:79:31
 wrote-requires : tie.Need-wrote-requires
 wrote-requires c κs = search needs
 
--- src/talk.rt:70:1
 same-length-2 : tie.Need-same-length-2
 same-length-2 c = search needs
 
--- src/talk.rt:70:1
 returns-2 : tie.Need-returns-2
 returns-2 c = λ input cells. rw (c .before .onward .ensures, c .wrote .ensures) (line-on input (c .before .before .before .before .before .before .before .before .before .before .args .f) (c .before .before .before .before .before .before .before .before .before .before .args .t) cells (c .before .before .before .before .before .before .before .before .before .before .args .out .now) (c .before .before .before .before .before .before .before .before .before .before .pre .0 .top) (c .before .before .before .before .before .before .before .before .before .before .pre .1) (rw (c .before .before .before .end .given .1) at (c .before .before .before .before .before .before .before .put-newline .ensures)))
 

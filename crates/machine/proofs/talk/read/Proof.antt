@@ -4,83 +4,59 @@ use mir.Val.{SFits}
 use mir.ValLaws.{toZ-ofZ}
 use borrow.Author.Needs.{needs}
 use Rattle.machine.proofs.TalkLaws.{read-bad, read-full, read-on}
-use borrow.Author.Needs.{needs}
 use Rattle.machine.proofs.talk.read.Statement.{statement}
 use Rattle.machine.proofs.talk.read.Tie as tie
-use Rattle.machine.proofs.talk.read.Reads as reads
-use Rattle.machine.proofs.talk.read.Lts as lts
-use Rattle.machine.proofs.frames.Frame.onward.Reads as onward-reads
-use Rattle.machine.proofs.talk.Tape.took.Reads as took-reads
-use Rattle.numbers.proofs.line.next_entry.Reads as next-entry-reads
-use Rattle.numbers.proofs.screen.put_prompt.Reads as put-prompt-reads
 
--- src/talk.rt:90:31
 next-entry-requires : tie.Need-next-entry-requires
 next-entry-requires c κs = search needs
 
--- src/talk.rt:90:20
 enum-known-z : tie.Need-enum-known-z
 enum-known-z c = search needs
 
--- src/talk.rt:91:9
 enum-told : tie.Need-enum-told
 enum-told c = search needs
 
--- src/talk.rt:91:9
 returns : tie.Need-returns
 returns c = read-bad (c .before .before .before .before .before .args .input .now) (c .before .before .before .before .before .args .f) (c .before .before .before .before .before .args .t) (c .before .before .before .before .before .args .cells .now) (c .before .before .before .before .before .args .out .now) (c .before .before .before .before .before .pre .1 .top) (c .before .before .before .before .before .pre .2) (c .before .before .before .before .before .args .i) (rw (c .enum-told .given .1) at (c .before .before .next-entry .ensures))
 
--- src/talk.rt:93:24
 put-prompt-requires : tie.Need-put-prompt-requires
 put-prompt-requires c κs = search needs
 
--- src/talk.rt:93:17
 enum-known-end : tie.Need-enum-known-end
 enum-known-end c = search needs
 
--- src/talk.rt:94:9
 enum-told-2 : tie.Need-enum-told-2
 enum-told-2 c = search needs
 
--- src/talk.rt:94:9
 same-length : tie.Need-same-length
 same-length c = search needs
 
--- src/talk.rt:94:9
 returns-2 : tie.Need-returns-2
 returns-2 c =
     let k = rw (c .before .before .before .before .before .before .before .z .given .1) at (c .before .before .before .before .before .before .before .before .before .next-entry .ensures) in
     read-full (c .before .before .before .before .before .before .before .before .before .before .before .before .args .input .now) (c .before .before .before .before .before .before .before .before .before .before .before .before .args .f) (c .before .before .before .before .before .before .before .before .before .before .before .before .args .t) (c .before .before .before .before .before .before .before .before .before .before .before .before .args .cells .now) (c .before .before .before .before .before .before .before .before .before .before .before .before .args .out .now) (c .before .before .before .before .before .before .before .before .before .before .before .before .pre .1 .top) (c .before .before .before .before .before .before .before .before .before .before .before .before .pre .2) (c .before .before .before .before .before .before .before .before .before .before .before .before .args .i) (k .value) (rw (c .enum-told2 .given .1) at (c .before .before .before .before .put-prompt .ensures))
 
--- src/talk.rt:96:5
 mul-z : tie.Need-mul-z
 mul-z c = search needs
 
--- src/talk.rt:96:5
 slice-set-from-z : tie.Need-slice-set-from-z
 slice-set-from-z c = search needs
 
--- src/talk.rt:97:25
 add-onward : tie.Need-add-onward
 add-onward c = search needs
 
--- src/talk.rt:97:16
 onward-requires : tie.Need-onward-requires
 onward-requires c κs = search needs
 
--- src/talk.rt:97:35
 took-requires : tie.Need-took-requires
 took-requires c κs = search needs
 
--- src/talk.rt:83:1
 same-length-2 : tie.Need-same-length-2
 same-length-2 c = search needs
 
--- src/talk.rt:83:1
 same-length-3 : tie.Need-same-length-3
 same-length-3 c = search needs
 
--- src/talk.rt:83:1
 returns-3 : tie.Need-returns-3
 returns-3 c =
     let z = c .before .before .before .before .before .before .before .before .before .before .z .given .0 .0 in

@@ -3,48 +3,33 @@ use mir.Syntax.{w64}
 use mir.ValLaws.{toZ-ofZ}
 use borrow.Author.Needs.{needs}
 use Rattle.machine.proofs.TalkLaws.{write-on, write-full}
-use borrow.Author.Needs.{needs}
 use Rattle.machine.proofs.talk.write.Statement.{statement}
 use Rattle.machine.proofs.talk.write.Tie as tie
-use Rattle.machine.proofs.talk.write.Reads as reads
-use Rattle.machine.proofs.talk.write.Lts as lts
-use Rattle.machine.proofs.frames.Frame.onward.Reads as onward-reads
-use Rattle.machine.proofs.talk.Tape.wrote.Reads as wrote-reads
-use Rattle.numbers.proofs.screen.put_number.Reads as put-number-reads
 
--- src/talk.rt:64:24
 put-number-requires : tie.Need-put-number-requires
 put-number-requires c κs = search needs
 
--- src/talk.rt:64:17
 enum-known-end : tie.Need-enum-known-end
 enum-known-end c = search needs
 
--- src/talk.rt:65:9
 enum-told : tie.Need-enum-told
 enum-told c = search needs
 
--- src/talk.rt:65:9
 same-length : tie.Need-same-length
 same-length c = search needs
 
--- src/talk.rt:65:9
 returns : tie.Need-returns
 returns c = λ input cells. write-full input (c .before .before .before .before .before .before .before .args .f) (c .before .before .before .before .before .before .before .args .t) cells (c .before .before .before .before .before .before .before .args .out .now) (c .before .before .before .before .before .before .before .pre .0 .top) (c .before .before .before .before .before .before .before .pre .1) (c .before .before .before .before .before .before .before .args .z) (rw (c .enum-told .given .1, toZ-ofZ w64 (c .before .before .before .before .before .before .before .args .z) (c .before .before .before .before .before .before .before .fits .z)) at (c .before .before .before .before .put-number .ensures))
 
--- src/talk.rt:67:16
 onward-requires : tie.Need-onward-requires
 onward-requires c κs = search needs
 
--- src/talk.rt:67:31
 wrote-requires : tie.Need-wrote-requires
 wrote-requires c κs = search needs
 
--- src/talk.rt:58:1
 same-length-2 : tie.Need-same-length-2
 same-length-2 c = search needs
 
--- src/talk.rt:58:1
 returns-2 : tie.Need-returns-2
 returns-2 c = λ input cells. rw (c .before .onward .ensures, c .wrote .ensures) (write-on input (c .before .before .before .before .before .before .before .before .before .before .args .f) (c .before .before .before .before .before .before .before .before .before .before .args .t) cells (c .before .before .before .before .before .before .before .before .before .before .args .out .now) (c .before .before .before .before .before .before .before .before .before .before .pre .0 .top) (c .before .before .before .before .before .before .before .before .before .before .pre .1) (c .before .before .before .before .before .before .before .before .before .before .args .z) (rw (c .before .before .before .end .given .1, toZ-ofZ w64 (c .before .before .before .before .before .before .before .before .before .before .args .z) (c .before .before .before .before .before .before .before .before .before .before .fits .z)) at (c .before .before .before .before .before .before .before .put-number .ensures)))
 

@@ -3,14 +3,10 @@ use native.Mathlib.Numerals.{add-one}
 use borrow.Author.Needs.{needs}
 use Rattle.machine.proofs.talk.Tape.took.Statement.{statement}
 use Rattle.machine.proofs.talk.Tape.took.Tie as tie
-use Rattle.machine.proofs.talk.Tape.took.Reads as reads
-use Rattle.machine.proofs.talk.Tape.took.Lts as lts
 
--- src/talk.rt:53:20
 add-t4 : tie.Need-add-t4
 add-t4 c = search needs
 
--- src/talk.rt:46:5
 returns : tie.Need-returns
 returns c = rw (add-one (c .before .args .self .lines))
 

@@ -1,0 +1,83 @@
+-- `run::run_bytes` meets its contract.
+use mathlib.Core.Path.{sym}
+use lib.Seq.{length-take-le}
+use borrow.Author.Needs.{needs}
+use Rattle.replay.proofs.run.run_bytes.Statement.{statement}
+use Rattle.replay.proofs.run.run_bytes.Tie as tie
+
+part-requires : tie.Need-part-requires
+part-requires c κs = search needs
+
+read-bytes-requires : tie.Need-read-bytes-requires
+read-bytes-requires c κs = search needs
+
+enum-known-n : tie.Need-enum-known-n
+enum-known-n c = search needs
+
+enum-told : tie.Need-enum-told
+enum-told c = search needs
+
+unknown-requires : tie.Need-unknown-requires
+unknown-requires c κs = search needs
+
+same-length : tie.Need-same-length
+same-length c = search needs
+
+same-length-2 : tie.Need-same-length-2
+same-length-2 c = search needs
+
+returns : tie.Need-returns
+returns c = search needs
+
+unknown-requires-2 : tie.Need-unknown-requires-2
+unknown-requires-2 c κs = search needs
+
+same-length-3 : tie.Need-same-length-3
+same-length-3 c = search needs
+
+same-length-4 : tie.Need-same-length-4
+same-length-4 c = search needs
+
+returns-2 : tie.Need-returns-2
+returns-2 c = search needs
+
+slice-reshare-prefix-run-counts : tie.Need-slice-reshare-prefix-run-counts
+slice-reshare-prefix-run-counts c = search needs
+
+slice-aggregate-run-counts : tie.Need-slice-aggregate-run-counts
+slice-aggregate-run-counts c = sym (length-take-le (c .before .before .before .n .given .0 .0) _ (c .before .if1 .left))
+
+run-counts-requires : tie.Need-run-counts-requires
+run-counts-requires c κs = search needs
+
+same-length-5 : tie.Need-same-length-5
+same-length-5 c = search needs
+
+same-length-6 : tie.Need-same-length-6
+same-length-6 c = search needs
+
+returns-3 : tie.Need-returns-3
+returns-3 c = search needs
+
+pub run-bytes-spec : {M : Type 1} → statement M
+run-bytes-spec =
+    tie.close
+    (tie.spec
+    part-requires
+    read-bytes-requires
+    enum-known-n
+    enum-told
+    unknown-requires
+    same-length
+    same-length-2
+    returns
+    unknown-requires-2
+    same-length-3
+    same-length-4
+    returns-2
+    slice-reshare-prefix-run-counts
+    slice-aggregate-run-counts
+    run-counts-requires
+    same-length-5
+    same-length-6
+    returns-3)
