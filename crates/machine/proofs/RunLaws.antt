@@ -82,21 +82,21 @@ module _ (code : List Instr) (budget : ℕ) (f₀ : Frame) (cs₀ : List ℤ) (l
         let k : suc (left - 1) ≡ left = omega arith in
         record { tells = λ m. rw (d .leaves) (q room m ∙ run-left code room left (at f cs m) (stop n) p (d .tells m) ∙ rw k); less = le; rests = tt }
 
-    pub quiet-write : {z : ℤ} → Sound f → r ≡ D.Write z → (room : ℕ) → Paused code room budget f₀ cs₀ (Talks (Write z) f (left - 1)) cs′
+    pub quiet-write : {z : ℤ} → Sound f → r ≡ D.Write z → (room : ℕ) → Paused code room budget f₀ cs₀ (Talks f (left - 1) (Write z)) cs′
     unfolding Quiet
     quiet-write {z} s e room =
         let d = rw e at (did room) in
         let t = rw (d .leaves .0) at (d .tells) in
         record { tells = λ m. rw (d .leaves .0) (q room m ∙ run-left code room left (at f cs m) (talkOf code room (Write z) (at f cs m)) p (t m)); less = omega arith; rests = (record { pc = d .leaves .1; top = s }, tt) }
 
-    pub quiet-line : Sound f → r ≡ D.NewLine → (room : ℕ) → Paused code room budget f₀ cs₀ (Talks NewLine f (left - 1)) cs′
+    pub quiet-line : Sound f → r ≡ D.NewLine → (room : ℕ) → Paused code room budget f₀ cs₀ (Talks f (left - 1) NewLine) cs′
     unfolding Quiet
     quiet-line s e room =
         let d = rw e at (did room) in
         let t = rw (d .leaves .0) at (d .tells) in
         record { tells = λ m. rw (d .leaves .0) (q room m ∙ run-left code room left (at f cs m) (talkOf code room NewLine (at f cs m)) p (t m)); less = omega arith; rests = (record { pc = d .leaves .1; top = s }, tt) }
 
-    pub quiet-read : {i : ℕ} → Sound f → r ≡ D.Read i → (room : ℕ) → Paused code room budget f₀ cs₀ (Talks (Read i) f (left - 1)) cs′
+    pub quiet-read : {i : ℕ} → Sound f → r ≡ D.Read i → (room : ℕ) → Paused code room budget f₀ cs₀ (Talks f (left - 1) (Read i)) cs′
     unfolding Quiet
     quiet-read {i} s e room =
         let d = rw e at (did room) in
@@ -142,7 +142,7 @@ module _ (code : List Instr) (input : List ℕ) (budget : ℕ) (out₀ : List �
   live-ends {t} {n} {l} {f} {cs} {out} v =
       rw (v .tells) (record { number = refl; outLength = sym (length-take-le (t .out) out (v .within)); lines = refl; steps = refl; out = onto-taken (t .out) out out₀ (v .within) (v .beyond); cells = refl })
 
-  module _ {t : Tape} {w : Talk} {f : Frame} {l : ℕ} {cs : List ℤ} {out : List ℕ} (v : Live t (Talks w f l) cs out) where
+  module _ {t : Tape} {w : Talk} {f : Frame} {l : ℕ} {cs : List ℤ} {out : List ℕ} (v : Live t (Talks f l w) cs out) where
     -- the room is that of the output as it is
     spoken : {s : Step} → talkOf code (length out) w (at f cs (taped t out input)) ≡ s → e ≡ going code (length out₀) l (at f cs (taped t out input)) s
     spoken {s} k = v .tells ∙ ap (going code (length out₀) l (at f cs (taped t out input))) (rw (v .size) at k)

@@ -24,17 +24,17 @@ going code room b m (stop n) = ended n (suc b) m
 
 -- the end of a run that paused so, with the cells that it left
 abbrev pub pausedOf : List Instr → ℕ → Pause → List ℤ → Machine → Ended
-pausedOf code room (Talks w f b) cs m = going code room b (at f cs m) (talkOf code room w (at f cs m))
+pausedOf code room (Talks f b w) cs m = going code room b (at f cs m) (talkOf code room w (at f cs m))
 pausedOf code room (Ends n f b) cs m = ended n b (at f cs m)
 
 -- the budget left before the step that talks, or at the end
 abbrev pub leftOf : Pause → ℕ
-leftOf (Talks w f b) = suc b
+leftOf (Talks f b w) = suc b
 leftOf (Ends n f b) = b
 
 -- where it paused
 abbrev pub Rests : Pause → Type 0
-Rests (Talks w f b) = Steady f × Ready w f
+Rests (Talks f b w) = Steady f × Ready w f
 Rests (Ends n f b) = Unit
 
 -- a pause on the way of a run

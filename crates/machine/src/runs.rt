@@ -34,10 +34,10 @@ pub struct Ended {
     pub steps: u32,
 }
 
-// Quiet steps came to one that talks: what it exchanges, the frame there, and the budget that is left after it. Or the run
+// Quiet steps came to one that talks: the frame there, the budget that is left after it, and what it exchanges. Or the run
 // ended: its number, the frame, and the budget that is left.
 pub enum Pause {
-    Talks(Talk, Frame, u32),
+    Talks(Frame, u32, Talk),
     Ends(u8, Frame, u32),
 }
 
@@ -67,13 +67,13 @@ fn quiet(
                 return Pause::Ends(n, f, left);
             }
             Does::Write(z) => {
-                return Pause::Talks(Talk::Write(z), f, left - 1);
+                return Pause::Talks(f, left - 1, Talk::Write(z));
             }
             Does::NewLine => {
-                return Pause::Talks(Talk::NewLine, f, left - 1);
+                return Pause::Talks(f, left - 1, Talk::NewLine);
             }
             Does::Read(i) => {
-                return Pause::Talks(Talk::Read(i), f, left - 1);
+                return Pause::Talks(f, left - 1, Talk::Read(i));
             }
         }
         left = left - 1;
@@ -115,7 +115,7 @@ fn counted(
                     steps: budget - left,
                 };
             }
-            Pause::Talks(w, f, left) => match exchange(w, cells, input, out, f, t) {
+            Pause::Talks(f, left, w) => match exchange(w, cells, input, out, f, t) {
                 Talked::On(g, u) => {
                     t = u;
                     p = quiet(kinds, levels, operands, cells, places, left, g);

@@ -2,6 +2,16 @@ pub mod Reader
 pub mod Grammar
 pub mod Rows
 pub mod Refusals
+pub mod Written
+pub mod See
+pub mod Meets
+pub mod Parts
+pub mod Lists
+pub mod Blocks
+pub mod Pieces
+pub mod Quiet
+pub mod Entry
+pub mod Arguments
 pub mod Gets
 pub mod Depth
 pub mod Names

@@ -1,5 +1,9 @@
 pub mod Pieces
 pub mod Translate
 pub mod Refusals
-pub mod Shape
 pub mod Draft
+pub mod Meets
+pub mod Rows
+pub mod Blocks
+pub mod Result
+pub mod Shape

@@ -52,8 +52,8 @@ returns-2 c = quiet-stop (codeOf (c .before .before .before .before .before .bef
 enum-known-z : tie.Need-enum-known-z Inv-loop μ-loop
 enum-known-z c = search needs
 
-sub-t21 : tie.Need-sub-t21 Inv-loop μ-loop
-sub-t21 c = omega (arith, c .before .before .before .before .before .before .loop-test .taken)
+sub-t20 : tie.Need-sub-t20 Inv-loop μ-loop
+sub-t20 c = omega (arith, c .before .before .before .before .before .before .loop-test .taken)
 
 same-length-3 : tie.Need-same-length-3 Inv-loop μ-loop
 same-length-3 c = search needs
@@ -67,8 +67,8 @@ returns-3 c =
 enum-told : tie.Need-enum-told Inv-loop μ-loop
 enum-told c = search needs
 
-sub-t23 : tie.Need-sub-t23 Inv-loop μ-loop
-sub-t23 c = omega (arith, c .before .before .before .before .before .loop-test .taken)
+sub-t22 : tie.Need-sub-t22 Inv-loop μ-loop
+sub-t22 c = omega (arith, c .before .before .before .before .before .loop-test .taken)
 
 same-length-4 : tie.Need-same-length-4 Inv-loop μ-loop
 same-length-4 c = search needs
@@ -79,8 +79,8 @@ returns-4 c = quiet-line (codeOf (c .before .before .before .before .before .bef
 enum-known-i : tie.Need-enum-known-i Inv-loop μ-loop
 enum-known-i c = search needs
 
-sub-t25 : tie.Need-sub-t25 Inv-loop μ-loop
-sub-t25 c = omega (arith, c .before .before .before .before .before .before .loop-test .taken)
+sub-t24 : tie.Need-sub-t24 Inv-loop μ-loop
+sub-t24 c = omega (arith, c .before .before .before .before .before .before .loop-test .taken)
 
 same-length-5 : tie.Need-same-length-5 Inv-loop μ-loop
 same-length-5 c = search needs
@@ -122,15 +122,15 @@ quiet-spec =
     same-length-2
     returns-2
     enum-known-z
-    sub-t21
+    sub-t20
     same-length-3
     returns-3
     enum-told
-    sub-t23
+    sub-t22
     same-length-4
     returns-4
     enum-known-i
-    sub-t25
+    sub-t24
     same-length-5
     returns-5
     sub-left

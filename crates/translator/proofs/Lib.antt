@@ -1,0 +1,13 @@
+pub mod Drafting
+pub mod Lookup
+pub mod Lists
+pub mod Exps
+pub mod Jumps
+pub mod Stmts
+pub mod Flow
+pub mod Rowing
+pub mod Blocks
+pub mod Ending
+pub mod Insides
+pub mod Nested
+pub mod Whole

@@ -1,0 +1,12 @@
+pub mod Steps
+pub mod Operators
+pub mod Cells
+pub mod Parts
+pub mod Lookup
+pub mod Exps
+pub mod Ends
+pub mod Stores
+pub mod Lines
+pub mod Outputs
+pub mod Members
+pub mod Listed
