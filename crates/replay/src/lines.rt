@@ -44,6 +44,9 @@ fn answer_case(line: &[u8], answer: &mut [u8]) -> usize
     if is_same(part(line, b' ', 1), b"run") {
         return crate::run::answer_run(line, answer);
     }
+    if is_same(part(line, b' ', 1), b"compile") {
+        return crate::compile::answer_compile(line, answer);
+    }
     unknown(line, answer)
 }
 

@@ -1,5 +1,6 @@
 // Reads cases on standard input, a case to a line, and writes an answer to each. A case that cannot be read, or that is
 // of no known sort, is answered by its name and `unknown`.
+mod compile;
 mod lines;
 mod run;
 
