@@ -16,6 +16,7 @@ use Rattle.numbers.specs.Stack.{links}
 use Rattle.numbers.specs.Bytes.{isAscii, every}
 use Rattle.lexer.specs.Tokens.{Name}
 use Rattle.parser.specs.Grammar.{parse, Parsed, tree, refused}
+use Rattle.parser.specs.Entry.{reading}
 use Rattle.parser.specs.Refusals.{parse-refuses}
 use Rattle.tree.specs.Tree.{Exp, call, noProcs, Block}
 use Rattle.pcode.specs.Operators.{return}
@@ -26,7 +27,7 @@ use Rattle.symbols.specs.Symbols.{rows, Row, constRows, varRows, mainScope}
 use Rattle.translator.specs.Translate.{Done, finished, failed, blockCode, stmtCode, stmtsCode}
 use Rattle.machine.specs.Machine.{Ended, run, runOf, start}
 use Rattle.walk.specs.Walk.{walkMain, Walked, walked, begin, declaredRows, walkBlock}
-use Rattle.engine.specs.Compile.{Compiled, accepted, notAccepted, numberOf, codeOf, compile, fromTree, translated, walkAfter, walkParsed, walkUnless, walk}
+use Rattle.engine.specs.Compile.{accepted, notAccepted, numberOf, codeOf, compile, fromTree, translated, walkAfter, walkParsed, walkUnless, walk}
 use Rattle.engine.specs.Accepted.{behind, accepted-shape}
 use Rattle.agreement.specs.Declared.{const-rows, var-rows, sound-rows}
 use Rattle.agreement.specs.Exprs.{main}
@@ -83,8 +84,8 @@ taken src b c p e =
 
 -- no refusal has the number 0, so that the number 0 says that the text was accepted
 pub accepted-at-0 : (src : List ℕ) → numberOf (compile src) ≡ done → compile src ≡ accepted (codeOf (compile src))
-unfolding compile fromTree translated
-accepted-at-0 src e = go (leb (length src) maxSource) (every isAscii src) e
+unfolding compile fromTree translated reading
+accepted-at-0 src e = parsed (reading src) (unread (leb (length src) maxSource) (every isAscii src)) e
   where
     never : (n : ℕ) → ltb 0 n ≡ true → n ≡ 0 → notAccepted n ≡ accepted []
     never n l e = absurd (omega (arith, ltb-true 0 n l))
@@ -97,13 +98,10 @@ accepted-at-0 src e = go (leb (length src) maxSource) (every isAscii src) e
     parsed (tree b) h e = block (blockCode b) (block-no b) e
     parsed (refused n) h e = never n (h n refl) e
 
-    answer : Bool → Bool → Compiled
-    answer x y = elim x [ false ↦ notAccepted sourceTooLong | true ↦ elim y [ false ↦ notAccepted sourceNotAscii | true ↦ fromTree (parse src) ] ]
-
-    go : (x y : Bool) → numberOf (answer x y) ≡ 0 → answer x y ≡ accepted (codeOf (answer x y))
-    go true true e = parsed (parse src) (parse-refuses src) e
-    go true false e = absurd (omega arith)
-    go false y e = absurd (omega arith)
+    unread : (x y : Bool) (n : ℕ) → elim x as (λ z. Parsed) [ false ↦ refused sourceTooLong | true ↦ elim y as (λ z. Parsed) [ false ↦ refused sourceNotAscii | true ↦ parse src ] ] ≡ refused n → ltb 0 n ≡ true
+    unread true true n e = parse-refuses src n e
+    unread true false n e = let z : n ≡ sourceNotAscii = cc in rw z
+    unread false y n e = let z : n ≡ sourceTooLong = cc in rw z
 
 -- Whatever text compile answers with 0, and whose tree holds no procedure: its walk and the run of its code agree, for every input,
 -- budget and room for output

@@ -1,3 +1,5 @@
 pub mod Putting
 pub mod Handing
 pub mod Leaving
+pub mod Drafting
+pub mod Compiling

@@ -1,14 +1,10 @@
 -- compile and walk as answers: what a text gives, before anything is put into a lent list.
-use mathlib.Core.Bool.{true, false}
 use mathlib.Core.List.{List, []}
 use Prim.Native.Nat.{ℕ}
-use lib.Dec.{leb}
-use lib.ListN.{length}
-use Rattle.numbers.specs.Panel.{done, sourceTooLong, sourceNotAscii, procedureInTree}
-use Rattle.numbers.specs.Limits.{maxSource}
-use Rattle.numbers.specs.Bytes.{isAscii, every}
+use Rattle.numbers.specs.Panel.{done, procedureInTree}
 use Rattle.tree.specs.Tree.{Procs, noProcs, proc}
 use Rattle.parser.specs.Grammar.{parse, Parsed, tree, refused}
+use Rattle.parser.specs.Entry.{reading}
 use Rattle.pcode.specs.Code.{Instr}
 use Rattle.translator.specs.Translate.{Done, finished, failed, blockCode}
 use Rattle.walk.specs.Walk.{Walked, begin, walkBlock}
@@ -38,13 +34,9 @@ unfoldable pub fromTree : Parsed → Compiled
 fromTree (tree b) = translated (blockCode b)
 fromTree (refused n) = notAccepted n
 
--- "then 1, 2, then the parser's first refusal in reading order, then the translator's first in its own order"
+-- "then 1, 2, then the parser's first refusal in reading order", which is the parser's `reading`; "then the translator's first in its own order"
 unfoldable pub compile : List ℕ → Compiled
-compile src =
-    elim (leb (length src) maxSource) [
-      | false ↦ notAccepted sourceTooLong
-      | true ↦ elim (every isAscii src) [ false ↦ notAccepted sourceNotAscii | true ↦ fromTree (parse src) ]
-    ]
+compile src = fromTree (reading src)
 
 -- no step was made
 abbrev pub unwalked : ℕ → List ℕ → ℕ → Walked
