@@ -9,12 +9,15 @@ ghost use lib.ListN.{length, drop};
 ghost use Rattle.numbers.specs.Limits.{treePlaces, tablePlaces, draftPlaces};
 ghost use Rattle.engine.specs.Entries.{Drafting, numberIn, lengthIn};
 
+// The panel's number of a text that was accepted.
+const DONE: u8 = 0;
+
 // The number of an answer.
 pub fn number_in(t: Translated) -> u8
     ensures { λ r. ⌜ r ≡ numberIn t ⌝ }
 {
     match t {
-        Translated::Length(_, _) => 0,
+        Translated::Length(_, _) => DONE,
         Translated::Refused(e) => e,
     }
 }

@@ -125,3 +125,35 @@ pub fn put_count(out: &mut [u8], at: usize, n: usize) -> usize
     }
     put_number(out, e, n as i64)
 }
+
+// `KIND,LEVEL,OPERAND`
+fn put_place(out: &mut [u8], at: usize, kind: i8, level: u16, operand: i64) -> usize
+    requires { ⌜ at ≤ length (now out) ⌝ }
+    ensures { λ r. ⌜ r ≤ length (now (out .entry)) ⌝ }
+{
+    let a = put_number(out, at, kind as i64);
+    let b = put_byte(out, a, b',');
+    let c = put_number(out, b, level as i64);
+    let d = put_byte(out, c, b',');
+    put_number(out, d, operand)
+}
+
+// Places joined by `;`, `-` where there are none.
+pub fn put_code(out: &mut [u8], at: usize, kinds: &[i8], levels: &[u16], operands: &[i64]) -> usize
+    requires { ⌜ at ≤ length (now out) ⌝ }
+    requires { ⌜ length (now kinds) ≤ length (now levels) ⌝ }
+    requires { ⌜ length (now kinds) ≤ length (now operands) ⌝ }
+    ensures { λ r. ⌜ r ≤ length (now (out .entry)) ⌝ }
+{
+    if kinds.len() == 0 {
+        return put_byte(out, at, b'-');
+    }
+    let mut n = put_place(out, at, kinds[0], levels[0], operands[0]);
+    let mut i = 1;
+    while i < kinds.len() {
+        n = put_byte(out, n, b';');
+        n = put_place(out, n, kinds[i], levels[i], operands[i]);
+        i = i + 1;
+    }
+    n
+}

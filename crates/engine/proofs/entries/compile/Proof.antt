@@ -9,81 +9,56 @@ use Rattle.engine.proofs.Compiling.{leaves, roomy, cramped-code, crampe
 use borrow.Author.Needs.{needs}
 use Rattle.engine.proofs.entries.compile.Statement.{statement}
 use Rattle.engine.proofs.entries.compile.Tie as tie
-use Rattle.engine.proofs.entries.compile.Reads as reads
-use Rattle.engine.proofs.entries.compile.Lts as lts
-use Rattle.engine.proofs.drafts.draft_text.Reads as draft-text-reads
-use Rattle.engine.proofs.drafts.length_in.Reads as length-in-reads
-use Rattle.engine.proofs.drafts.number_in.Reads as number-in-reads
-use Rattle.engine.proofs.entries.holds_code.Reads as holds-code-reads
-use Rattle.engine.proofs.entries.holds_work.Reads as holds-work-reads
-use Rattle.engine.proofs.places.hand_out.Reads as hand-out-reads
-use Rattle.engine.proofs.rooms.wipe.Reads as wipe-reads
 
--- src/entries.rt:66:9
 holds-code-requires : tie.Need-holds-code-requires
 holds-code-requires c κs = search needs
 
--- src/entries.rt:67:9
 returns : tie.Need-returns
 returns c = cramped-code _ _ _ (sym (c .before .holds-code .ensures) ∙ not-true _ (c .if1 .taken))
 
--- src/entries.rt:72:9
 holds-work-requires : tie.Need-holds-work-requires
 holds-work-requires c κs = search needs
 
--- src/entries.rt:73:9
 returns-2 : tie.Need-returns-2
 returns-2 c = cramped-work _ _ _ (sym (c .before .before .before .holds-code .ensures) ∙ not-false _ (c .before .before .if1 .left)) (sym (c .before .holds-work .ensures) ∙ not-true _ (c .if2 .taken))
 
--- src/entries.rt:78:9
 draft-text-requires : tie.Need-draft-text-requires
 draft-text-requires c κs = all-long 98400 (length (c .before .before .before .before .before .before .before .before .before .before .before .before .args .tree .now)) 6144 (length (c .before .before .before .before .before .before .before .before .before .before .before .before .args .table .now)) 16384 (length (c .before .before .before .before .before .before .before .before .before .before .before .before .args .draft .now)) (sym (c .before .before .before .before .holds-work .ensures) ∙ not-false _ (c .before .before .before .if2 .left))
 
--- src/entries.rt:79:9
 length-in-requires : tie.Need-length-in-requires
 length-in-requires c κs = search needs
 
--- src/entries.rt:80:5
 hand-out-requires : tie.Need-hand-out-requires
 hand-out-requires c κs =
     let t = taken (c .before .before .before .before .before .before .before .before .before .before .before .draft-text .ensures .0) in
     ((codeOf (compile (c .before .before .before .before .before .before .before .before .before .before .before .before .before .before .before .before .before .before .before .before .before .before .before .before .args .text .now)), rw (c .before .before .before .before .length-in .ensures) (t .stands)), (rw (c .before .before .before .before .length-in .ensures) (t .few), all-long 4096 (length (c .before .before .before .before .before .before .before .before .before .before .before .before .before .before .before .before .before .before .before .before .before .before .before .before .args .kinds .now)) 4096 (length (c .before .before .before .before .before .before .before .before .before .before .before .before .before .before .before .before .before .before .before .before .before .before .before .before .args .levels .now)) 4096 (length (c .before .before .before .before .before .before .before .before .before .before .before .before .before .before .before .before .before .before .before .before .before .before .before .before .args .operands .now)) (sym (c .before .before .before .before .before .before .before .before .before .before .before .before .before .before .before .before .before .before .holds-code .ensures) ∙ not-false _ (c .before .before .before .before .before .before .before .before .before .before .before .before .before .before .before .before .before .if1 .left))))
 
--- src/entries.rt:81:5
 wipe-requires : tie.Need-wipe-requires
 wipe-requires c κs =
     let (a, (b, d)) = all-long 98400 (length (c .before .before .before .before .before .before .before .before .before .before .before .before .before .before .before .before .before .before .before .before .before .before .before .before .before .before .before .before .before .before .before .before .args .tree .now)) 6144 (length (c .before .before .before .before .before .before .before .before .before .before .before .before .before .before .before .before .before .before .before .before .before .before .before .before .before .before .before .before .before .before .before .before .args .table .now)) 16384 (length (c .before .before .before .before .before .before .before .before .before .before .before .before .before .before .before .before .before .before .before .before .before .before .before .before .before .before .before .before .before .before .before .before .args .draft .now)) (sym (c .before .before .before .before .before .before .before .before .before .before .before .before .before .before .before .before .before .before .before .before .before .before .before .before .holds-work .ensures) ∙ not-false _ (c .before .before .before .before .before .before .before .before .before .before .before .before .before .before .before .before .before .before .before .before .before .before .before .if2 .left)) in
     (omega (arith, c .before .before .before .before .before .before .before .before .before .before .before .before .before .before .before .before .before .before .before .draft-text .kept .1 .0), (omega (arith, c .before .before .before .before .before .before .before .before .before .before .before .before .before .before .before .before .before .before .before .draft-text .kept .1 .1 .0), omega (arith, c .before .before .before .before .before .before .before .before .before .before .before .before .before .before .before .before .before .before .before .draft-text .kept .1 .1 .1 .0)))
 
--- src/entries.rt:83:17
 number-in-requires : tie.Need-number-in-requires
 number-in-requires c κs = search needs
 
--- src/entries.rt:55:1
 same-length : tie.Need-same-length
 same-length c = search needs
 
--- src/entries.rt:55:1
 same-length-2 : tie.Need-same-length-2
 same-length-2 c = search needs
 
--- src/entries.rt:55:1
 same-length-3 : tie.Need-same-length-3
 same-length-3 c = search needs
 
--- src/entries.rt:55:1
 same-length-4 : tie.Need-same-length-4
 same-length-4 c = search needs
 
--- src/entries.rt:55:1
 same-length-5 : tie.Need-same-length-5
 same-length-5 c = search needs
 
--- src/entries.rt:55:1
 same-length-6 : tie.Need-same-length-6
 same-length-6 c = search needs
 
--- src/entries.rt:55:1
 returns-3 : tie.Need-returns-3
 returns-3 c =
     let t = taken (c .before .before .before .before .before .before .before .before .before .before .before .before .before .before .before .before .before .before .before .before .before .before .before .before .before .before .before .draft-text .ensures .0) in

@@ -2,18 +2,13 @@
 use Rattle.engine.proofs.Compiling.{first-short, second-short, third-tells}
 use Rattle.engine.proofs.entries.holds_code.Statement.{statement}
 use Rattle.engine.proofs.entries.holds_code.Tie as tie
-use Rattle.engine.proofs.entries.holds_code.Reads as reads
-use Rattle.engine.proofs.entries.holds_code.Lts as lts
 
--- src/entries.rt:33:9
 returns : tie.Need-returns
 returns c = first-short _ (c .before .args .kinds) _ _ (c .if1 .taken)
 
--- src/entries.rt:36:9
 returns-2 : tie.Need-returns-2
 returns-2 c = second-short _ (c .before .before .args .kinds) _ (c .before .before .args .levels) _ (c .before .if1 .left) (c .if2 .taken)
 
--- src/entries.rt:29:1
 returns-3 : tie.Need-returns-3
 returns-3 c = third-tells _ (c .before .before .args .kinds) _ (c .before .before .args .levels) _ (c .before .if1 .left) (c .if2 .left)
 

@@ -2,18 +2,13 @@
 use Rattle.engine.proofs.Compiling.{first-short, second-short, third-tells}
 use Rattle.engine.proofs.entries.holds_work.Statement.{statement}
 use Rattle.engine.proofs.entries.holds_work.Tie as tie
-use Rattle.engine.proofs.entries.holds_work.Reads as reads
-use Rattle.engine.proofs.entries.holds_work.Lts as lts
 
--- src/entries.rt:46:9
 returns : tie.Need-returns
 returns c = first-short _ (c .before .args .tree) _ _ (c .if1 .taken)
 
--- src/entries.rt:49:9
 returns-2 : tie.Need-returns-2
 returns-2 c = second-short _ (c .before .before .args .tree) _ (c .before .before .args .table) _ (c .before .if1 .left) (c .if2 .taken)
 
--- src/entries.rt:42:1
 returns-3 : tie.Need-returns-3
 returns-3 c = third-tells _ (c .before .before .args .tree) _ (c .before .before .args .table) _ (c .before .if1 .left) (c .if2 .left)
 
