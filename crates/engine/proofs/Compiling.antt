@@ -22,7 +22,7 @@ pub record Wiped (n : ℕ) (lent xs ys : List ℕ) : Type 0 where
   pub beyond : drop n xs ≡ drop n lent
   pub zeros : ys ≡ onto xs (replicate n 0)
 
-wiped : {n : ℕ} {lent xs ys : List ℕ} → Wiped n lent xs ys → ys ≡ onto lent (replicate n 0)
+pub wiped : {n : ℕ} {lent xs ys : List ℕ} → Wiped n lent xs ys → ys ≡ onto lent (replicate n 0)
 wiped {n} {lent} {xs} {ys} w =
     let m : length (replicate {A = ℕ} n 0) ≡ n = length-replicate n 0 in
     w .zeros ∙ ap (λ (k : ℕ). replicate n 0 ++ drop k xs) m ∙ ap (λ (l : List ℕ). replicate n 0 ++ l) (w .beyond) ∙ ap (λ (k : ℕ). replicate n 0 ++ drop k lent) (sym m)

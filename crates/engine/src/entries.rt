@@ -16,7 +16,7 @@ ghost use Rattle.engine.specs.Outcomes.{compileOutcome};
 ghost use Rattle.engine.specs.Entries.{compiledOf};
 
 // "lent room too small"
-const ROOM_TOO_SMALL: u8 = 24;
+pub const ROOM_TOO_SMALL: u8 = 24;
 
 // Number and code length, 0 if refused.
 #[repr(C)]
@@ -39,7 +39,7 @@ fn holds_code(kinds: usize, levels: usize, operands: usize) -> bool
 }
 
 // Whether the working room is large enough.
-fn holds_work(tree: usize, table: usize, draft: usize) -> bool
+pub fn holds_work(tree: usize, table: usize, draft: usize) -> bool
     ensures { λ r. ⌜ r ≡ (leb treePlaces tree && leb tablePlaces table && leb draftPlaces draft) ⌝ }
 {
     if tree < TREE {

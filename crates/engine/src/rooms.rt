@@ -4,11 +4,14 @@ ghost use mathlib.Core.List.{_++_};
 ghost use Prim.Native.Nat.{_-_, _≤_};
 ghost use lib.IntN.{pos, negsuc};
 ghost use lib.ListN.{length, take, replicate};
-ghost use Rattle.numbers.specs.Limits.{maxCode, treePlaces, tablePlaces, draftPlaces};
+ghost use Rattle.numbers.specs.Limits.{maxCode, maxVariables, treePlaces, tablePlaces, draftPlaces};
 ghost use Rattle.numbers.specs.Lent.{onto};
 
 // The code places that compile fills.
 pub const CODE: usize = 4096;
+
+// The places for variables that walk fills.
+pub const VARIABLES: usize = 512;
 
 // The working room.
 pub const TREE: usize = 98400;
@@ -78,6 +81,18 @@ pub fn fill_operands(operands: &mut [i64], from: usize)
     let mut k = from;
     while k < CODE {
         operands[k] = 0;
+        k += 1;
+    }
+}
+
+// Zero in all places for variables.
+pub fn clear_variables(vars: &mut [i64])
+    requires { ⌜ maxVariables ≤ length (now vars) ⌝ }
+    ensures { λ _. ⌜ now (vars .exit) ≡ onto (now (vars .entry)) (replicate maxVariables (pos 0)) ⌝ }
+{
+    let mut k = 0;
+    while k < VARIABLES {
+        vars[k] = 0;
         k += 1;
     }
 }

@@ -1,7 +1,7 @@
 -- Laws of statements' answers: one after the other, and single steps.
 use mathlib.Core.Path.{_≡_, refl, sym, ap, _∙_}
 use mathlib.Core.List.{List}
-use Prim.Native.Nat.{ℕ, _+_, _-_, _≤_, _<_}
+use Prim.Native.Nat.{ℕ, _-_, _≤_}
 use native.Mathlib.Omega.{arith}
 use lib.IntN.{ℤ}
 use Rattle.numbers.specs.Panel.{budgetSpent}
@@ -14,7 +14,7 @@ use Rattle.walk.specs.declared.progress.Outcome.{Outcome}
 use Rattle.walk.specs.declared.progress.Outcome.the-variants.{Done, Refused}
 use Rattle.walk.specs.declared.reading.Entered.{Entered}
 use Rattle.walk.specs.declared.reading.Entered.the-variants.{Number, Stopped as Unread}
-use Rattle.walk.specs.Walk.{State, Result, ok, stop, Walk, then, step, atTop}
+use Rattle.walk.specs.Walk.{State, Result, ok, Walk, then, step, atTop}
 use Rattle.walk.specs.Meets.{Gives, gives, halts, Shows}
 use Rattle.walk.specs.Holds.{withClock, Holds, Ends, done, refused, Reads, read, unread}
 use Rattle.walk.proofs.Steps.{step-on}
@@ -92,6 +92,10 @@ ends-at x h = rw x h
 pub ends-from : {e : Env} {input : List ℕ} {lv : List ℤ} {lo : List ℕ} {vars : List ℤ} {out : List ℕ} (p : Progress) {q : Progress} {o : Result (Unit {0})} {r : Outcome} → q .clock .left ≤ p .clock .left → Ends e input lv lo vars out q o r → Ends e input lv lo vars out p o r
 ends-from p l (done {q = d} v j m n) = done {q = d} v j m (omega (arith, n))
 ends-from p l (refused {k = k} {q = d} v j m n) = refused {k = k} {q = d} v j m (omega (arith, n))
+
+-- no step comes back
+pub ends-less : {e : Env} {input : List ℕ} {lv : List ℤ} {lo : List ℕ} {vars : List ℤ} {out : List ℕ} {p q : Progress} {o : Result (Unit {0})} → Ends e input lv lo vars out p o (Done q) → q .clock .left ≤ p .clock .left
+ends-less (done v x h l) = l
 
 -- after a line was read
 module _ {e : Env} {input : List ℕ} {lv : List ℤ} {lo : List ℕ} {vars : List ℤ} {out : List ℕ} {p : Progress} {o : Result ℤ} {r : Entered} (a : Reads e input lv lo vars out p o r) where

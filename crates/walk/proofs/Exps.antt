@@ -1,19 +1,17 @@
 -- Laws of expressions and conditions: how the answers of the parts give the answer of the whole.
 use mathlib.Core.Path.{_≡_, refl, sym, ap, _∙_}
 use mathlib.Core.List.{List}
-use Prim.Native.Nat.{ℕ, suc, _+_, _-_, _≤_, _<_}
+use Prim.Native.Nat.{ℕ, _+_, _-_, _≤_, _<_}
 use native.Mathlib.Omega.{arith as linear}
 use lib.IntN.{ℤ, pos}
 use lib.ListN.{length, getD}
-use mir.Syntax.{w64}
-use mir.Val.{toZ, ofZ}
-use Rattle.numbers.specs.Arithmetic.{Arith, arith, Compare, compare, compared, flag, Val, val, negated, oddness}
-use Rattle.tree.specs.Tree.{Exp, lit, ref, neg, chain, brackets, Chain, end, link, Cond, isOdd, rel}
-use Rattle.tree.specs.Layout.{negKind, chainKind, bracketsKind, oddKind, comparisonKind, Nodes, literal, noMore, member, count, enc, encs, Stands}
+use Rattle.numbers.specs.Arithmetic.{Arith, arith, Compare, Val, oddness}
+use Rattle.tree.specs.Tree.{Exp, chain, brackets, Chain, end, link, Cond, isOdd, rel}
+use Rattle.tree.specs.Layout.{negKind, chainKind, bracketsKind, oddKind, literal, noMore, member, count, enc, encs, Stands}
 use Rattle.tree.specs.Nodes.{expNode, chainNodes, condNode, arithNo, compareNo}
 use Rattle.tree.specs.Named.{NamedExp, NamedChain, NamedCond}
-use Rattle.tree.specs.Reading.{word-at, literal-at, branch-at, first-at, two-at, Two, After}
-use Rattle.tree.specs.Heads.{nameHead, numberHead, nodeHead, ExpIs, isLit, isRef, isNeg, isChain, isBrackets, exp-head, CondIs, isOddness, isRel, cond-is, cond-head}
+use Rattle.tree.specs.Reading.{word-at, branch-at, first-at, two-at, After}
+use Rattle.tree.specs.Heads.{nameHead, numberHead, nodeHead, ExpIs, isLit, isRef, isNeg, isChain, isBrackets, exp-head, cond-head}
 use Rattle.symbols.specs.Symbols.{mainScope, Row, find}
 use Rattle.symbols.specs.Table.{part}
 use Rattle.walk.specs.declared.expressions.Env.{Env}
@@ -21,7 +19,7 @@ use Rattle.walk.specs.declared.expressions.Clock.{Clock}
 use Rattle.walk.specs.declared.expressions.Valued.{Valued}
 use Rattle.walk.specs.declared.expressions.Valued.the-variants.{Value, Stopped}
 use Rattle.walk.specs.Walk.{State, Result, ok, stop, Walk, then, atTop, push, result, onOne, onTwo, valueIn, walkExp, walkChain, walkCond}
-use Rattle.walk.specs.Meets.{Went, Gives, gives, halts, Cells, Shows, negWalk, linkWalk, relWalk, ExpAt, HasExp, CondAt, HasCond}
+use Rattle.walk.specs.Meets.{Went, Gives, gives, halts, Cells, Shows, negWalk, linkWalk, relWalk, ExpAt, HasExp, CondAt}
 use Rattle.walk.proofs.Steps.{at-top}
 use Rattle.walk.proofs.Parts.{name-is, exp-by, at-left, at-right}
 

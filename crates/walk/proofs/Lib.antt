@@ -10,3 +10,8 @@ pub mod Lines
 pub mod Outputs
 pub mod Members
 pub mod Listed
+pub mod Testing
+pub mod Flow
+pub mod Bodies
+pub mod Declaring
+pub mod Whole

@@ -1,21 +1,21 @@
 -- Laws of reading a line and of writing: what the lent output holds.
 use mathlib.Core.Path.{_≡_, refl, sym, ap, _∙_}
 use mathlib.Core.Bool.{Bool, true, false}
-use mathlib.Core.List.{List, [], _++_, append-assoc}
+use mathlib.Core.List.{List, _++_, append-assoc}
 use mathlib.Core.Option.{Option, none, some}
 use Prim.Native.Nat.{ℕ, suc, _+_, _-_, _≤_, _<_}
 use native.Mathlib.Omega.{arith}
 use native.Mathlib.Numerals.{add-one}
 use lib.IntN.{ℤ}
 use lib.Dec.{leb, ltb}
-use lib.ListN.{length, take, drop, length-append, length-drop}
-use lib.Seq.{take-at, drop-at, drop-drop, drop-append-le}
+use lib.ListN.{length, drop, length-append, length-drop}
+use lib.Seq.{take-at, drop-at, drop-drop}
 use borrow.Author.Tests.{lt-ltb, le-ltb, leb-true}
 use Rattle.numbers.specs.Panel.{budgetSpent, cellOutside, badEntry, outputFull}
 use Rattle.numbers.specs.Limits.{maxCells}
 use Rattle.numbers.specs.Lent.{onto}
 use Rattle.numbers.specs.Screen.{prompt, fitsIn}
-use Rattle.numbers.specs.Line.{entry, afterLine}
+use Rattle.numbers.specs.Line.{entry}
 use Rattle.numbers.specs.declared.line.Taken.{Taken}
 use Rattle.numbers.specs.declared.line.Taken.the-variants.{Got, Bad}
 use Rattle.numbers.specs.declared.screen.Put.{Put}
@@ -23,11 +23,10 @@ use Rattle.numbers.specs.declared.screen.Put.the-variants.{At, Full}
 use Rattle.numbers.specs.Answers.{Takes, Took, Puts, Wrote, Kept, spliced}
 use Rattle.walk.specs.declared.expressions.Env.{Env}
 use Rattle.walk.specs.declared.progress.Progress.{Progress}
-use Rattle.walk.specs.declared.reading.Entered.{Entered}
 use Rattle.walk.specs.declared.reading.Entered.the-variants.{Number, Stopped}
-use Rattle.walk.specs.Walk.{State, Result, ok, stop, refuse, unless, gotLine, readLine, tookLine}
-use Rattle.walk.specs.Holds.{Holds, Reads, read, unread, Enters}
-use Rattle.walk.proofs.Steps.{one-more, step-on, refuse-on, spent-unless}
+use Rattle.walk.specs.Walk.{State, Result, stop, refuse, gotLine, readLine, tookLine}
+use Rattle.walk.specs.Holds.{Holds, read, unread, Enters}
+use Rattle.walk.proofs.Steps.{step-on, refuse-on, spent-unless}
 
 -- the lent output is as long as it was
 pub onto-length : {A : Type 0} (lo new : List A) → length new ≤ length lo → length (onto lo new) ≡ length lo

@@ -1,16 +1,16 @@
 -- The members of a `read` and of a `write`, as families that the loops go by.
-use mathlib.Core.Path.{_≡_, refl, sym, ap, _∙_}
+use mathlib.Core.Path.{_≡_, refl, ap, _∙_}
 use mathlib.Core.List.{List, [], _∷_}
-use Prim.Native.Nat.{ℕ, _+_, _≤_, _<_}
+use Prim.Native.Nat.{ℕ, _+_, _≤_}
 use native.Mathlib.Omega.{arith}
 use lib.IntN.{ℤ}
 use lib.ListN.{length, getD, drop, length-append}
 use Rattle.numbers.specs.Screen.{newline}
 use Rattle.lexer.specs.Tokens.{Name}
 use Rattle.tree.specs.Tree.{Exp, Stmt, readS, writeS}
-use Rattle.tree.specs.Layout.{readKind, writeKind, count, encs, enc, Stands}
+use Rattle.tree.specs.Layout.{readKind, writeKind}
 use Rattle.tree.specs.Nodes.{listNodes, nameNode, expNode, expNodes, stmtNode}
-use Rattle.tree.specs.Named.{Each, NameIn, NamedExp, NamedStmt}
+use Rattle.tree.specs.Named.{NameIn, NamedExp, NamedStmt}
 use Rattle.tree.specs.Reading.{branch-at}
 use Rattle.tree.specs.Heads.{nodeHead, StmtIs, isRead, isWrite, stmt-is, stmt-head}
 use Rattle.symbols.specs.Symbols.{Row}

@@ -1,5 +1,5 @@
 -- Laws of a name's value and place, by what it finds.
-use mathlib.Core.Path.{_≡_, refl, sym, ap, _∙_}
+use mathlib.Core.Path.{_≡_, sym, ap, _∙_}
 use mathlib.Core.List.{List}
 use mathlib.Core.Option.{Option, none, some}
 use Prim.Native.Nat.{ℕ, _+_, _-_, _*_, _≤_, _<_}
@@ -12,7 +12,7 @@ use Rattle.numbers.specs.Stack.{links}
 use Rattle.symbols.specs.declared.Found.{Found}
 use Rattle.symbols.specs.declared.Found.the-variants.{At, Nothing}
 use Rattle.symbols.specs.declared.Symbol.{Symbol}
-use Rattle.symbols.specs.Symbols.{Kind, const, var, procedure, Scope, mainScope, Row, find}
+use Rattle.symbols.specs.Symbols.{Kind, const, var, procedure, mainScope, Row, find}
 use Rattle.symbols.specs.Table.{field, scopeAt, kindOf, valueOf, rowAt, rowsIn, symbolAt, Sound, Hit, Finds}
 use Rattle.symbols.specs.Chains.{scope-main}
 use Rattle.walk.specs.Walk.{valueBy, valueIn, placeIn}

@@ -1,11 +1,11 @@
 -- A loop over the members of a node that works out each of them: one law for the names of a `read`, the expressions of a `write` and the members of a body.
 use mathlib.Core.Path.{_≡_, refl, sym, ap, _∙_}
 use mathlib.Core.List.{List, [], _∷_}
-use Prim.Native.Nat.{ℕ, suc, _+_, _≤_, _<_}
+use Prim.Native.Nat.{ℕ, _+_, _≤_, _<_}
 use native.Mathlib.Omega.{arith}
 use lib.IntN.{ℤ}
 use lib.ListN.{length}
-use Rattle.tree.specs.Layout.{Node, Nodes, noMore, member, count, enc, encs, Stands}
+use Rattle.tree.specs.Layout.{Node, member, count, enc, encs, Stands}
 use Rattle.tree.specs.Nodes.{listNodes}
 use Rattle.tree.specs.Named.{Each}
 use Rattle.tree.specs.Reading.{two-at, After}
@@ -13,8 +13,8 @@ use Rattle.walk.specs.declared.expressions.Env.{Env}
 use Rattle.walk.specs.declared.progress.Progress.{Progress}
 use Rattle.walk.specs.declared.progress.Outcome.{Outcome}
 use Rattle.walk.specs.declared.progress.Outcome.the-variants.{Done, Refused}
-use Rattle.walk.specs.Walk.{State, Result, ok, stop, Walk, then}
-use Rattle.walk.specs.Holds.{Holds, HasState, Ends, done, refused}
+use Rattle.walk.specs.Walk.{State, Walk, then}
+use Rattle.walk.specs.Holds.{Holds, HasState, Ends, done}
 use Rattle.walk.proofs.Ends.{ends-as, ends-from, ends-halt}
 
 -- what stays the same while members of one kind are worked out: their nodes, what is known of them, how one and how all are worked out

@@ -11,9 +11,8 @@ use Rattle.numbers.specs.Panel.{budgetSpent, cellOutside}
 use Rattle.numbers.specs.Limits.{maxCells}
 use Rattle.numbers.specs.Arithmetic.{Val, val, fault}
 use Rattle.walk.specs.declared.expressions.Clock.{Clock}
-use Rattle.walk.specs.declared.expressions.Valued.{Valued}
 use Rattle.walk.specs.declared.expressions.Valued.the-variants.{Value, Stopped}
-use Rattle.walk.specs.Walk.{State, Result, ok, stop, Walk, step, refuse, unless, atTop, push, result}
+use Rattle.walk.specs.Walk.{State, Result, ok, stop, step, refuse, unless, atTop, push, result}
 use Rattle.walk.specs.Meets.{Halted, Gives, gives, halts}
 
 pub positive : (n : ℕ) → (n ≡ 0 → ⊥) → 1 ≤ n

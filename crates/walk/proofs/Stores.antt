@@ -1,5 +1,5 @@
 -- Laws of assignments.
-use mathlib.Core.Path.{_≡_, refl, sym, ap, _∙_}
+use mathlib.Core.Path.{_≡_, sym, ap, _∙_}
 use mathlib.Core.List.{List}
 use Prim.Native.Nat.{ℕ, _+_, _-_, _≤_}
 use native.Mathlib.Omega.{arith}
@@ -8,12 +8,12 @@ use lib.ListN.{length, getD, set, length-set}
 use Rattle.numbers.specs.Panel.{budgetSpent}
 use Rattle.numbers.specs.Lent.{onto}
 use Rattle.lexer.specs.Tokens.{Name}
-use Rattle.tree.specs.Tree.{Exp, Stmt, assign, ifThen, ifElse, while, call, body, readS, writeS}
+use Rattle.tree.specs.Tree.{Exp, Stmt, assign}
 use Rattle.tree.specs.Layout.{assignKind, noMore, member, size}
 use Rattle.tree.specs.Nodes.{nameNode, expNode, stmtNode}
 use Rattle.tree.specs.Named.{NamedStmt}
-use Rattle.tree.specs.Reading.{word-at, first-at, next-at, two-at}
-use Rattle.tree.specs.Heads.{nodeHead, StmtIs, isAssign, stmt-is, stmt-head}
+use Rattle.tree.specs.Reading.{word-at, first-at, two-at}
+use Rattle.tree.specs.Heads.{nodeHead, StmtIs, isAssign, stmt-is}
 use Rattle.symbols.specs.Symbols.{mainScope, Row, find}
 use Rattle.symbols.specs.Table.{part}
 use Rattle.walk.specs.declared.expressions.Env.{Env}
@@ -22,8 +22,8 @@ use Rattle.walk.specs.declared.expressions.Valued.{Valued}
 use Rattle.walk.specs.declared.expressions.Valued.the-variants.{Value, Stopped}
 use Rattle.walk.specs.declared.progress.Progress.{Progress}
 use Rattle.walk.specs.declared.progress.Outcome.{Outcome}
-use Rattle.walk.specs.declared.progress.Outcome.the-variants.{Done, Refused}
-use Rattle.walk.specs.Walk.{State, Result, step, atTop, stored, placeIn, store, walkExp, walkStmt}
+use Rattle.walk.specs.declared.progress.Outcome.the-variants.{Refused}
+use Rattle.walk.specs.Walk.{State, atTop, stored, placeIn, store, walkExp, walkStmt}
 use Rattle.walk.specs.Meets.{ExpAt, HasExp, Shows, Gives}
 use Rattle.walk.specs.Holds.{NameAt, HasName, StmtAt, HasStmt, withClock, Holds, Ends, Steps}
 use Rattle.walk.proofs.Steps.{step-on}
