@@ -8,7 +8,6 @@ use native.Mathlib.Numerals.{add-one}
 use native.Mathlib.Nat.{le-refl, le-trans}
 use native.Mathlib.Omega.{arith}
 use lib.Dec.{leb}
-use lib.IntN.{pos}
 use lib.ListN.{length, getD, take, drop}
 use lib.Seq.{drop-cons}
 use borrow.Author.Tests.{le-leb, lt-leb, leb-true, leb-false}
@@ -30,7 +29,7 @@ pub digit-many : (v b : ℕ) → greatestBefore < v → withDigit v b ≡ above
 unfolding withDigit
 digit-many v b h = rw (lt-leb _ _ h, withDigit)
 
-pub literal-fits : (v : ℕ) → v ≤ greatest → literalOf v ≡ Integer (pos v)
+pub literal-fits : (v : ℕ) → v ≤ greatest → literalOf v ≡ Integer v
 unfolding literalOf
 literal-fits v h = rw (le-leb _ _ h, literalOf)
 
@@ -76,7 +75,7 @@ literal-shows src l i r t n = by (leb (digits 0 (take (span isDigit l) l)) great
   where
     by : (x : Bool) → leb (digits 0 (take (span isDigit l) l)) greatest ≡ x → Shows src r (numberAt i l)
     by true e =
-        let u : r .token ≡ Integer (pos (digits 0 (take (span isDigit l) l))) = t ∙ rw (e, literalOf) in
+        let u : r .token ≡ Integer (digits 0 (take (span isDigit l) l)) = t ∙ rw (e, literalOf) in
         record { means = rw u (rw (e, numberAt)); inside = λ a m q. absurd (let z : _≡_ {A = ℕ} 0 1 = cc in omega arith); next = n }
     by false e =
         let u : r .token ≡ TooBig = t ∙ rw (e, literalOf) in

@@ -3,7 +3,6 @@ use mathlib.Core.Path.{_≡_}
 use mathlib.Core.List.{List}
 use Prim.Native.Nat.{ℕ, _+_, _≤_}
 use lib.ListN.{length, take, drop}
-use lib.IntN.{pos, negsuc}
 use Rattle.lexer.specs.Marks.{ifWord, thenWord, elseWord, whileWord, doWord, constWord, varWord, procedureWord, programWord, beginWord, endWord, callWord, readWord, writeWord, oddWord, plusSign, minusSign, timesSign, divideSign, openSign, closeSign, equalSign, semicolonSign, commaSign, lessSign, greaterSign, atMostSign, atLeastSign, unequalSign, becomesSign}
 use Rattle.lexer.specs.Tokens.{Name, mark, name, number, Found, token, bad, tooBig, endOfText, Lexed as Reading}
 use Rattle.lexer.specs.declared.token.Token.{Token}
@@ -14,10 +13,10 @@ use Rattle.lexer.specs.declared.token.Lexed.{Lexed}
 abbrev pub nameAt : List ℕ → ℕ → ℕ → Name
 nameAt src at n = record { at = at; text = take n (drop at src) }
 
--- what a token of the code can say: this was found; it is one too many to be looked at; or nothing, since no literal is negative
+-- what a token of the code can say: this was found; or it is one too many to be looked at
 pub data Sight : Type 0 where
   sees : Found → Sight
-  tooMany senseless : Sight
+  tooMany : Sight
 
 -- what each token of the code says
 abbrev pub meaning : List ℕ → Token → Sight
@@ -52,8 +51,7 @@ meaning src ParR = sees (token (mark closeSign))
 meaning src Semicolon = sees (token (mark semicolonSign))
 meaning src Comma = sees (token (mark commaSign))
 meaning src (Identifier at n) = sees (token (name (nameAt src at n)))
-meaning src (Integer (pos v)) = sees (token (number v))
-meaning src (Integer (negsuc v)) = senseless
+meaning src (Integer v) = sees (token (number v))
 meaning src LexicalError = sees bad
 meaning src TooBig = sees tooBig
 meaning src TooMany = tooMany

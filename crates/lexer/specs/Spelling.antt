@@ -6,7 +6,6 @@ use Prim.Native.Nat.{ℕ, _+_, _*_, _-_}
 use Prim.Native.Char.{code}
 use lib.Dec.{leb, eqb}
 use lib.ListN.{length}
-use lib.IntN.{pos}
 use Rattle.numbers.specs.Limits.{greatest}
 use Rattle.lexer.specs.Marks.{Mark, ifWord, thenWord, elseWord, whileWord, doWord, constWord, varWord, procedureWord, programWord, beginWord, endWord, callWord, readWord, writeWord, oddWord, plusSign, minusSign, timesSign, divideSign, openSign, closeSign, equalSign, semicolonSign, commaSign, lessSign, greaterSign, atMostSign, atLeastSign, unequalSign, becomesSign, pairs, singles, spelt}
 use Rattle.lexer.specs.declared.token.Token.{Token}
@@ -77,4 +76,4 @@ withDigit v b = elim (leb v greatestBefore) [ true ↦ v * 10 + (b - code "0") |
 
 -- the literal of a value
 unfoldable pub literalOf : ℕ → Token
-literalOf v = elim (leb v greatest) [ true ↦ Integer (pos v) | false ↦ TooBig ]
+literalOf v = elim (leb v greatest) [ true ↦ Integer v | false ↦ TooBig ]

@@ -11,30 +11,30 @@ use crate::token::Lexed;
 use crate::token::Token;
 
 // The greatest i64.
-const GREATEST: u64 = 9223372036854775807;
+const GREATEST: usize = 9223372036854775807;
 // The greatest value that a digit more does not always bring above that.
-const GREATEST_BEFORE: u64 = 922337203685477580;
+const GREATEST_BEFORE: usize = 922337203685477580;
 // What stands for every value above the greatest.
-const ABOVE: u64 = 9223372036854775808;
+const ABOVE: usize = 9223372036854775808;
 
 // The value with one more digit.
-fn with_digit(v: u64, b: u8) -> u64
+fn with_digit(v: usize, b: u8) -> usize
     requires { ⌜ isDigit b ≡ true ⌝ }
     ensures { λ r. ⌜ r ≡ withDigit v b ⌝ }
 {
     if v <= GREATEST_BEFORE {
-        v * 10 + (b - b'0') as u64
+        v * 10 + (b - b'0') as usize
     } else {
         ABOVE
     }
 }
 
 // The literal of that value.
-fn literal(v: u64) -> Token
+fn literal(v: usize) -> Token
     ensures { λ r. ⌜ r ≡ literalOf v ⌝ }
 {
     if v <= GREATEST {
-        Token::Integer(v as i64)
+        Token::Integer(v)
     } else {
         Token::TooBig
     }
@@ -44,7 +44,7 @@ fn literal(v: u64) -> Token
 pub fn integer(text: &[u8], i: usize) -> Lexed
     ensures { λ r. ⌜ Shows (now (text .entry)) r (numberAt i (drop i (now (text .entry)))) ⌝ }
 {
-    let mut v: u64 = 0;
+    let mut v: usize = 0;
     let mut e = i;
     while e < text.len() {
         let b = text[e];

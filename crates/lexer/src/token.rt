@@ -32,7 +32,8 @@ pub enum Token {
     Comma,
     // A name: its offset and its length.
     Identifier(usize, usize),
-    Integer(i64),
+    // A literal: its value.
+    Integer(usize),
     LexicalError,
     // A literal above the greatest i64.
     TooBig,
