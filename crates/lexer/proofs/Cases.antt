@@ -22,13 +22,14 @@ use Rattle.lexer.specs.Tokens.{Name, mark, name, Found, token, bad, tooB
 use Rattle.lexer.specs.Spelling.{tokenOf, named, signOf}
 use Rattle.lexer.specs.Cursor.{Cursor as Place}
 use Rattle.lexer.specs.Meaning.{nameAt, sees, tooMany, meaning, Inside, Shows}
-use Rattle.lexer.specs.Kinds.{kindOf, noKind, holding, tokens, tokenIn, looked, token-held}
+use Rattle.lexer.specs.Kinds.{kindOf, noKind, wordsOf, holding, tokens, tokenIn, looked, token-held}
 use Rattle.lexer.specs.Stands.{beyond, sight, counting, Holds, placeOf, Looks, Finds}
 use Rattle.lexer.specs.Outcomes.{said}
 use Rattle.lexer.specs.declared.token.Token.{Token}
 use Rattle.lexer.specs.declared.token.Token.the-variants.{If, Then, Else, While, Do, Const, Var, Procedure, Program, Begin, End, Call, Read, Write, Odd, Add, Sub, Mul, Div, Eq, Lt, Gt, Le, Ge, Ne, EqSign, ParL, ParR, Semicolon, Comma, Identifier, Integer, LexicalError, TooBig, TooMany, EndOfText}
 use Rattle.lexer.specs.declared.token.Lexed.{Lexed}
 use Rattle.lexer.specs.declared.cursor.Cursor.{Cursor}
+use Rattle.lexer.specs.declared.cursor.Words.{Words}
 use Rattle.lexer.proofs.Runs.{stop, stop-length}
 use Rattle.lexer.proofs.Tables.{two}
 
@@ -161,44 +162,44 @@ module _ (src : List ℕ) (at i : ℕ) (start : i ≡ stop isBlank src at) where
 abbrev others : List ℕ
 others = 0 ∷ 1 ∷ 2 ∷ 3 ∷ 4 ∷ 5 ∷ 6 ∷ 7 ∷ 8 ∷ 9 ∷ 10 ∷ 11 ∷ 12 ∷ 13 ∷ 14 ∷ 15 ∷ 16 ∷ 17 ∷ 18 ∷ 19 ∷ 20 ∷ 21 ∷ 22 ∷ 23 ∷ 24 ∷ 25 ∷ 26 ∷ 27 ∷ 28 ∷ 29 ∷ 32 ∷ 33 ∷ 34 ∷ 35 ∷ []
 
--- the cursor that holds such a token
-pub hold-other : (t : Token) (at n : ℕ) → OneOf others (tagOf Tok.the-type t) → record { at = at; kind = kindOf t; first = 0; second = 0; count = n } ≡ holding t at n
-hold-other If at n h = refl
-hold-other Then at n h = refl
-hold-other Else at n h = refl
-hold-other While at n h = refl
-hold-other Do at n h = refl
-hold-other Const at n h = refl
-hold-other Var at n h = refl
-hold-other Procedure at n h = refl
-hold-other Program at n h = refl
-hold-other Begin at n h = refl
-hold-other End at n h = refl
-hold-other Call at n h = refl
-hold-other Read at n h = refl
-hold-other Write at n h = refl
-hold-other Odd at n h = refl
-hold-other Add at n h = refl
-hold-other Sub at n h = refl
-hold-other Mul at n h = refl
-hold-other Div at n h = refl
-hold-other Eq at n h = refl
-hold-other Lt at n h = refl
-hold-other Gt at n h = refl
-hold-other Le at n h = refl
-hold-other Ge at n h = refl
-hold-other Ne at n h = refl
-hold-other EqSign at n h = refl
-hold-other ParL at n h = refl
-hold-other ParR at n h = refl
-hold-other Semicolon at n h = refl
-hold-other Comma at n h = refl
-hold-other (Identifier a l) at n h = absurd (miss others 30 tt h)
-hold-other (Integer v) at n h = absurd (miss others 31 tt h)
-hold-other LexicalError at n h = refl
-hold-other TooBig at n h = refl
-hold-other TooMany at n h = refl
-hold-other EndOfText at n h = refl
+-- such a token in words
+pub plain-words : (t : Token) (n : ℕ) → OneOf others (tagOf Tok.the-type t) → record { kind = kindOf t; first = 0; second = 0; next = n } ≡ wordsOf t n
+plain-words If n h = refl
+plain-words Then n h = refl
+plain-words Else n h = refl
+plain-words While n h = refl
+plain-words Do n h = refl
+plain-words Const n h = refl
+plain-words Var n h = refl
+plain-words Procedure n h = refl
+plain-words Program n h = refl
+plain-words Begin n h = refl
+plain-words End n h = refl
+plain-words Call n h = refl
+plain-words Read n h = refl
+plain-words Write n h = refl
+plain-words Odd n h = refl
+plain-words Add n h = refl
+plain-words Sub n h = refl
+plain-words Mul n h = refl
+plain-words Div n h = refl
+plain-words Eq n h = refl
+plain-words Lt n h = refl
+plain-words Gt n h = refl
+plain-words Le n h = refl
+plain-words Ge n h = refl
+plain-words Ne n h = refl
+plain-words EqSign n h = refl
+plain-words ParL n h = refl
+plain-words ParR n h = refl
+plain-words Semicolon n h = refl
+plain-words Comma n h = refl
+plain-words (Identifier a l) n h = absurd (miss others 30 tt h)
+plain-words (Integer v) n h = absurd (miss others 31 tt h)
+plain-words LexicalError n h = refl
+plain-words TooBig n h = refl
+plain-words TooMany n h = refl
+plain-words EndOfText n h = refl
 
 -- a number is none of those below n
 abbrev None : (n k : ℕ) → Type 0
@@ -269,27 +270,26 @@ module _ (src : List ℕ) (c : Cursor) (none : noKind ≤ c .kind) where
   unfolding looked
   fresh h = record { again = λ q. never (let z : true ≡ false = sym q ∙ le-ltb _ _ none in cc); first = λ q. h }
 
-  pub look-few : {r : Cursor} → c .count < maxTokens → Finds src (c .at) (c .count + 1) r → Looks src c r
+  pub look-few : {w : Words} → c .count < maxTokens → Finds src (c .at) w → Looks src c (record { first = w .first; kind = w .kind; at = w .next; count = c .count + 1; second = w .second })
   unfolding sight counting
   look-few h f =
       let s = f .shows in
       rw (f .is) (fresh (holds src _ _ _ _ (s .means ∙ rw (lt-ltb _ _ h, sight)) (s .inside) (s .next) (add-one _ ∙ rw (lt-ltb _ _ h, counting))))
 
-  module _ {r : Cursor} (many : maxTokens ≤ c .count) (f : Finds src (c .at) (c .count) r) where
+  module _ {w : Words} (many : maxTokens ≤ c .count) (f : Finds src (c .at) w) where
     -- what is looked at there for the token that was found
-    past : (t : Token) → meaning src t ≡ beyond (lexAt src (c .at) .found) → Inside src t → Looks src c (holding t (r .at) (c .count))
+    past : (t : Token) → meaning src t ≡ beyond (lexAt src (c .at) .found) → Inside src t → Looks src c (holding t (w .next) (c .count))
     unfolding sight counting
-    past t m i = fresh (holds src t _ _ _ (m ∙ rw (le-ltb _ _ many, sight)) i (ap (λ (x : Cursor). x .at) (f .is) ∙ f .shows .next) (rw (le-ltb _ _ many, counting)))
+    past t m i = fresh (holds src t _ _ _ (m ∙ rw (le-ltb _ _ many, sight)) i (ap (λ (x : Words). x .next) (f .is) ∙ f .shows .next) (rw (le-ltb _ _ many, counting)))
 
-    pub look-end : r .kind ≡ 35 → Looks src c r
+    pub look-end : w .kind ≡ 35 → Looks src c (holding EndOfText (w .next) (c .count))
     look-end e =
-        let t = last-kind (f .found .token) (sym (ap (λ (x : Cursor). x .kind) (f .is)) ∙ e) in
+        let t = last-kind (f .found .token) (sym (ap (λ (x : Words). x .kind) (f .is)) ∙ e) in
         let q : sees endOfText ≡ sees (lexAt src (c .at) .found) = sym (ap (meaning src) t) ∙ f .shows .means in
         let z : lexAt src (c .at) .found ≡ endOfText = cc in
-        let y : r ≡ holding EndOfText (r .at) (c .count) = rw (f .is, t) in
-        rw y (past EndOfText (rw z) (λ a n x. never (cc)))
+        past EndOfText (rw z) (λ a n x. never (cc))
 
-    pub look-many : (r .kind ≡ 35 → ⊥) → Looks src c (holding TooMany (r .at) (c .count))
+    pub look-many : (w .kind ≡ 35 → ⊥) → Looks src c (holding TooMany (w .next) (c .count))
     look-many e = past TooMany (by (lexAt src (c .at) .found) refl) (λ a n x. never (cc))
       where
         by : (x : Found) → lexAt src (c .at) .found ≡ x → tooMany ≡ beyond x
@@ -298,4 +298,4 @@ module _ (src : List ℕ) (c : Cursor) (none : noKind ≤ c .kind) where
         by tooBig q = refl
         by endOfText q =
             let t : f .found .token ≡ EndOfText = said src _ _ (f .shows .means ∙ ap sees q) (f .shows .inside) in
-            absurd (e (ap (λ (x : Cursor). x .kind) (f .is) ∙ ap kindOf t))
+            absurd (e (ap (λ (x : Words). x .kind) (f .is) ∙ ap kindOf t))

@@ -8,6 +8,7 @@ use lib.ListN.{getD}
 use Rattle.lexer.specs.declared.token.Token.{Token}
 use Rattle.lexer.specs.declared.token.Token.the-variants.{If, Then, Else, While, Do, Const, Var, Procedure, Program, Begin, End, Call, Read, Write, Odd, Add, Sub, Mul, Div, Eq, Lt, Gt, Le, Ge, Ne, EqSign, ParL, ParR, Semicolon, Comma, Identifier, Integer, LexicalError, TooBig, TooMany, EndOfText}
 use Rattle.lexer.specs.declared.cursor.Cursor.{Cursor}
+use Rattle.lexer.specs.declared.cursor.Words.{Words}
 
 -- the kind of a token: the place of its mark in 01's order, or one of the numbers after those
 abbrev pub kindOf : Token → ℕ
@@ -129,9 +130,13 @@ secondOf TooBig = 0
 secondOf TooMany = 0
 secondOf EndOfText = 0
 
+-- a token in words, and where the next is looked for
+abbrev pub wordsOf : Token → (next : ℕ) → Words
+wordsOf t n = record { kind = kindOf t; first = firstOf t; second = secondOf t; next = n }
+
 -- the cursor that holds a token
 abbrev pub holding : Token → (at count : ℕ) → Cursor
-holding t at n = record { at = at; kind = kindOf t; first = firstOf t; second = secondOf t; count = n }
+holding t at n = record { first = firstOf t; kind = kindOf t; at = at; count = n; second = secondOf t }
 
 -- the tokens but the last, from kind 0 on
 unfoldable pub tokens : (first second : ℕ) → List Token

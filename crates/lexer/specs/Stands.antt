@@ -11,10 +11,11 @@ use Rattle.numbers.specs.Limits.{maxTokens}
 use Rattle.lexer.specs.Tokens.{Token as Word, Found, token, bad, tooBig, endOfText, lexAt}
 use Rattle.lexer.specs.Cursor.{Cursor as Place, got, refuse, Reader, counted, judge, look}
 use Rattle.lexer.specs.Meaning.{Sight, sees, tooMany, meaning, Inside, Shows}
-use Rattle.lexer.specs.Kinds.{noKind, holding, held, looked, kind-some}
+use Rattle.lexer.specs.Kinds.{noKind, wordsOf, holding, held, looked, kind-some}
 use Rattle.lexer.specs.declared.token.Token.{Token}
 use Rattle.lexer.specs.declared.token.Lexed.{Lexed}
 use Rattle.lexer.specs.declared.cursor.Cursor.{Cursor}
+use Rattle.lexer.specs.declared.cursor.Words.{Words}
 
 -- what is seen past the last token that may be looked at: the end of the text, or a token too many
 abbrev pub beyond : Found → Sight
@@ -48,19 +49,19 @@ pub record Looks (src : List ℕ) (c r : Cursor) : Type 0 where
   pub again : looked c ≡ true → r ≡ c
   pub first : looked c ≡ false → Holds src r (placeOf c)
 
--- what `read` hands back: the cursor that holds what `next_token` finds
-pub record Finds (src : List ℕ) (at n : ℕ) (r : Cursor) : Type 0 where
+-- what `read` hands back: what `next_token` finds, in words
+pub record Finds (src : List ℕ) (at : ℕ) (r : Words) : Type 0 where
   pub found : Lexed
   pub shows : Shows src found (lexAt src at)
-  pub is : r ≡ holding (found .token) (found .next) n
+  pub is : r ≡ wordsOf (found .token) (found .next)
 
 -- what `take` hands back
 abbrev pub taken : Cursor → Cursor
-taken c = record { at = c .at; kind = noKind; first = 0; second = 0; count = c .count }
+taken c = record { first = 0; kind = noKind; at = c .at; count = c .count; second = 0 }
 
 -- what `new` hands back
 abbrev pub start : Cursor
-start = record { at = 0; kind = noKind; first = 0; second = 0; count = 0 }
+start = record { first = 0; kind = noKind; at = 0; count = 0; second = 0 }
 
 -- the code's cursor c stands at the definition's place k
 pub record Stands (src : List ℕ) (c : Cursor) (k : Place) : Type 0 where

@@ -1,6 +1,6 @@
 // The cursor: a position, one token and a flag, and how many tokens were looked at.
 ghost use mathlib.Core.Path.{_≡_};
-ghost use Rattle.lexer.specs.Kinds.{holding, held};
+ghost use Rattle.lexer.specs.Kinds.{wordsOf, held};
 ghost use Rattle.lexer.specs.Stands.{Finds, Looks, start, taken};
 use crate::kinds;
 use crate::next_token;
@@ -9,56 +9,61 @@ use crate::token::Token;
 // How many tokens may be looked at.
 const MAX_TOKENS: usize = 8192;
 
-// All whole words: beside a byte a copy would carry bytes that mean nothing, and wait for them.
+// Its fields are whole words, since beside a byte a copy would carry padding and wait for it. `first` and `second` are kept apart, so that they are
+// copied one by one: read back as one piece of 16 bytes, just after each was written by itself, they stall.
 pub struct Cursor {
-    // Where the next token is looked for: past the token that is held.
-    pub at: usize,
-    // The kind of the token held, or that none was looked at: the flag.
-    pub kind: usize,
     // A name's offset, or a literal's value.
     pub first: usize,
-    // A name's length.
-    pub second: usize,
+    // The kind of the token held, or that none was looked at: the flag.
+    pub kind: usize,
+    // Where the next token is looked for: past the token that is held.
+    pub at: usize,
     // How many tokens were looked at.
     pub count: usize,
+    // A name's length.
+    pub second: usize,
 }
 
-// The cursor that holds a token.
-fn hold(t: Token, at: usize, count: usize) -> Cursor
-    ensures { λ r. ⌜ r ≡ holding t at count ⌝ }
+// A token in words, and where the next is looked for.
+struct Words {
+    kind: usize,
+    first: usize,
+    second: usize,
+    next: usize,
+}
+
+fn in_words(t: Token, next: usize) -> Words
+    ensures { λ r. ⌜ r ≡ wordsOf t next ⌝ }
 {
     match t {
-        Token::Identifier(offset, length) => Cursor {
-            at,
+        Token::Identifier(offset, length) => Words {
             kind: kinds::NAME,
             first: offset,
             second: length,
-            count,
+            next,
         },
-        Token::Integer(value) => Cursor {
-            at,
+        Token::Integer(value) => Words {
             kind: kinds::LITERAL,
             first: value,
             second: 0,
-            count,
+            next,
         },
-        _ => Cursor {
-            at,
+        _ => Words {
             kind: kinds::kind_of(t),
             first: 0,
             second: 0,
-            count,
+            next,
         },
     }
 }
 
-// The cursor that holds the token at a place. `look` calls it in two places, so that the optimiser keeps it whole and `look` small.
-fn read(text: &[u8], at: usize, count: usize) -> Cursor
-    ensures { λ r. ⌜ Finds (now (text .entry)) at count r ⌝ }
+// The token at a place, in words. `look` calls it in two places, so that the optimiser keeps it whole and puts `look` where it is called.
+fn read(text: &[u8], at: usize) -> Words
+    ensures { λ r. ⌜ Finds (now (text .entry)) at r ⌝ }
 {
     let l = next_token(text, at);
     let t = l.token;
-    hold(t, l.next, count)
+    in_words(t, l.next)
 }
 
 impl Cursor {
@@ -66,11 +71,11 @@ impl Cursor {
         ensures { λ r. ⌜ r ≡ start ⌝ }
     {
         Cursor {
-            at: 0,
-            kind: kinds::NONE,
             first: 0,
-            second: 0,
+            kind: kinds::NONE,
+            at: 0,
             count: 0,
+            second: 0,
         }
     }
 
@@ -84,18 +89,31 @@ impl Cursor {
         let at = self.at;
         let n = self.count;
         if n < MAX_TOKENS {
-            return read(text, at, n + 1);
+            let w = read(text, at);
+            return Cursor {
+                first: w.first,
+                kind: w.kind,
+                at: w.next,
+                count: n + 1,
+                second: w.second,
+            };
         }
-        let c = read(text, at, n);
-        if c.kind == kinds::END_OF_TEXT {
-            return c;
+        let w = read(text, at);
+        if w.kind == kinds::END_OF_TEXT {
+            return Cursor {
+                first: 0,
+                kind: kinds::END_OF_TEXT,
+                at: w.next,
+                count: n,
+                second: 0,
+            };
         }
         Cursor {
-            at: c.at,
-            kind: kinds::TOO_MANY,
             first: 0,
-            second: 0,
+            kind: kinds::TOO_MANY,
+            at: w.next,
             count: n,
+            second: 0,
         }
     }
 
@@ -104,11 +122,11 @@ impl Cursor {
         ensures { λ r. ⌜ r ≡ taken self ⌝ }
     {
         Cursor {
-            at: self.at,
-            kind: kinds::NONE,
             first: 0,
-            second: 0,
+            kind: kinds::NONE,
+            at: self.at,
             count: self.count,
+            second: 0,
         }
     }
 

@@ -7,11 +7,11 @@ use Rattle.lexer.proofs.cursor.Cursor.look.Tie as tie
 returns : tie.Need-returns
 returns c = look-again _ _ (c .if1 .taken)
 
-add-read : tie.Need-add-read
-add-read c = search needs
-
 read-requires : tie.Need-read-requires
 read-requires c κs = search needs
+
+add-t8 : tie.Need-add-t8
+add-t8 c = search needs
 
 returns-2 : tie.Need-returns-2
 returns-2 c = look-few _ _ (c .before .before .if1 .left) (c .before .if2 .taken) (c .read .ensures)
@@ -27,5 +27,4 @@ returns-4 c = look-many _ _ (c .before .before .before .before .if1 .left) (c .b
 
 pub look-spec : {M : Type 1} → statement M
 look-spec =
-    tie.close
-    (tie.spec returns add-read read-requires returns-2 read-requires-2 returns-3 returns-4)
+    tie.close (tie.spec returns read-requires add-t8 returns-2 read-requires-2 returns-3 returns-4)
