@@ -23,7 +23,7 @@ use Rattle.parser.specs.Reader.{then, pure, ifNext}
 use Rattle.parser.specs.Grammar.{chained}
 use Rattle.parser.specs.Parts.{only, operand}
 use Rattle.parser.specs.Written.{Wrote, Seals}
-use Rattle.parser.specs.See.{Saw, Sees, whyOf, markOf, operatorOf}
+use Rattle.parser.specs.See.{Saw, Sees, whyOf, operatorOf}
 use Rattle.parser.specs.Meets.{Room, Grew, Safe, Made, Means, Meets, Reads}
 use Rattle.parser.proofs.Seeing.{saw, no-look, next-is, next-is-not}
 use Rattle.parser.proofs.Writing.{wrote-none, wrote-more}
@@ -58,7 +58,7 @@ module _ {src : List ℕ} {f first item : ℕ → Reader Exp} {rest : ℕ → Re
 
   module _ {c d : Cursor} {v : Seen} (h : Sees src c v) (at : v ≡ At d) where
     -- no operator: the chain's end
-    pub chain-end : (markOf (d .token) ≡ placeOf (ch .ma) → ⊥) × (markOf (d .token) ≡ placeOf (ch .mb) → ⊥) → {ys : List ℕ} {e : ℕ} → e ≤ length ys
+    pub chain-end : (d .kind ≡ placeOf (ch .ma) → ⊥) × (d .kind ≡ placeOf (ch .mb) → ⊥) → {ys : List ℕ} {e : ℕ} → e ≤ length ys
         → (n : ℕ) → 8 * left c + 1 ≤ n → (k : Place) → Stands src c k → Ended rest chainNodes src 1 ys e 0 ys e 0 d (rest n k)
     unfolding chainNodes count
     chain-end o {ys} {e} fits =
@@ -75,7 +75,7 @@ module _ {src : List ℕ} {f first item : ℕ → Reader Exp} {rest : ℕ → Re
         })
 
     -- an operator, with the number op, and after it an operand
-    module _ {op : ℕ} (number : op ≡ operatorOf (placeOf (ch .ma)) (arithNo (ch .aa)) (placeOf (ch .mb)) (arithNo (ch .ab)) (markOf (d .token))) (some : op ≡ 0 → ⊥) {t : Cursor} (took : t ≡ taken d) where
+    module _ {op : ℕ} (number : op ≡ operatorOf (placeOf (ch .ma)) (arithNo (ch .aa)) (placeOf (ch .mb)) (arithNo (ch .ab)) (d .kind)) (some : op ≡ 0 → ⊥) {t : Cursor} (took : t ≡ taken d) where
       -- which operator it is
       pub record Linked (n : ℕ) (k : Place) : Type 0 where
         pub sign : Arith
@@ -83,12 +83,12 @@ module _ {src : List ℕ} {f first item : ℕ → Reader Exp} {rest : ℕ → Re
         pub is : rest (suc n) k ≡ chained (item n) (rest n) (link sign) (past src k)
 
       linked : (n : ℕ) (k : Place) → Stands src c k → Linked n k
-      linked n k s = go (op-is (placeOf (ch .ma)) (arithNo (ch .aa)) (placeOf (ch .mb)) (arithNo (ch .ab)) (markOf (d .token)) op number some)
+      linked n k s = go (op-is (placeOf (ch .ma)) (arithNo (ch .aa)) (placeOf (ch .mb)) (arithNo (ch .ab)) (d .kind) op number some)
         where
           p : Saw src c d k (saw h at k s .0)
           p = saw h at k s .1
 
-          go : ((markOf (d .token) ≡ placeOf (ch .ma)) × (op ≡ arithNo (ch .aa))) ⊎ ((markOf (d .token) ≡ placeOf (ch .ma) → ⊥) × ((markOf (d .token) ≡ placeOf (ch .mb)) × (op ≡ arithNo (ch .ab)))) → Linked n k
+          go : ((d .kind ≡ placeOf (ch .ma)) × (op ≡ arithNo (ch .aa))) ⊎ ((d .kind ≡ placeOf (ch .ma) → ⊥) × ((d .kind ≡ placeOf (ch .mb)) × (op ≡ arithNo (ch .ab)))) → Linked n k
           go (inl (e, q)) = record { sign = (ch .aa); no = q; is = ch .again n k ∙ next-is p (ch .ma) _ _ e }
           go (inr (o, (e, q))) = record { sign = (ch .ab); no = q; is = ch .again n k ∙ next-is-not p (ch .ma) _ _ o ∙ next-is p (ch .mb) _ _ e }
 

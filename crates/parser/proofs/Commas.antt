@@ -18,7 +18,7 @@ use Rattle.parser.specs.declared.answer.Answer.the-variants.{Node, Nothi
 use Rattle.parser.specs.Reader.{then, commas}
 use Rattle.parser.specs.Parts.{only}
 use Rattle.parser.specs.Lists.{closed, Ended as Closing, Ends}
-use Rattle.parser.specs.See.{Sees, Wants, whyOf, markOf}
+use Rattle.parser.specs.See.{Sees, Wants, whyOf}
 use Rattle.parser.specs.Written.{Seals}
 use Rattle.parser.specs.Meets.{Grew, Safe, Made, Means, Reads}
 use Rattle.parser.proofs.Seeing.{saw, no-look, took, no-mark, next-is, next-is-not}
@@ -64,7 +64,7 @@ module _ {A : Type 0} (src : List ℕ) (item : Reader A) (node : A → Knot) whe
 
     module _ {g : Cursor} (at : v ≡ At g) where
       -- a comma: the loop goes on
-      pub comma-turn : {spare : ℕ} {t : Cursor} → markOf (g .token) ≡ placeOf commaSign → t ≡ taken g → suc (left t) ≡ left d → Grew spare 0 e c f d → Turn rest (listNodes node) src 1 ys e c zs f t
+      pub comma-turn : {spare : ℕ} {t : Cursor} → g .kind ≡ placeOf commaSign → t ≡ taken g → suc (left t) ≡ left d → Grew spare 0 e c f d → Turn rest (listNodes node) src 1 ys e c zs f t
       unfolding commas listNodes join count
       comma-turn {spare} {t} i q fw w = record {
         above = w .above;
@@ -89,7 +89,7 @@ module _ {A : Type 0} (src : List ℕ) (item : Reader A) (node : A → Knot) whe
       }
 
       -- no comma: that was the last
-      pub comma-end : (markOf (g .token) ≡ placeOf commaSign → ⊥) → (n : ℕ) → 8 * left c + 1 ≤ n → (k : Place) → Stands src c k → Ended rest (listNodes node) src 1 ys e 0 zs f 1 g (rest n k)
+      pub comma-end : (g .kind ≡ placeOf commaSign → ⊥) → (n : ℕ) → 8 * left c + 1 ≤ n → (k : Place) → Stands src c k → Ended rest (listNodes node) src 1 ys e 0 zs f 1 g (rest n k)
       unfolding commas listNodes count
       comma-end i =
           by-suc (λ x. (k : Place) → Stands src c k → Ended rest (listNodes node) src 1 ys e 0 zs f 1 g (rest x k)) (8 * left c + 1) (omega arith)

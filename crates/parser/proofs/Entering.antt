@@ -14,6 +14,7 @@ use Rattle.numbers.specs.Limits.{maxSource, treePlaces, maxTokens}
 use Rattle.numbers.specs.Bytes.{isAscii, every}
 use Rattle.numbers.specs.Panel.{sourceTooLong, sourceNotAscii, bodyFailedQuietly, roomTooSmall}
 use Rattle.lexer.specs.Cursor.{Cursor as Place, Ans, got, refuse}
+use Rattle.lexer.specs.Kinds.{looked}
 use Rattle.lexer.specs.Stands.{Stands, start, start-stands, left}
 use Rattle.tree.specs.Layout.{noMore, member, size, sizes, enc, encs}
 use Rattle.tree.specs.Nodes.{blockNode}
@@ -43,7 +44,7 @@ module _ (s : List ℕ) (i : ℕ) where
 
 -- the room at the start
 pub room-start : (src xs : List ℕ) → length src ≤ maxSource → length xs ≡ treePlaces → Room src xs 0 20 start
-unfolding left
+unfolding left looked
 room-start src xs h l = record { place = record { seen = 0; at = 0 }; stands = start-stands src; short = h; small = omega arith; room = omega arith }
 
 module _ (src : List ℕ) where
@@ -73,7 +74,7 @@ module _ (src : List ℕ) where
   -- the part that was lent, with what stands after it
   module _ (xs ys : List ℕ) (many : treePlaces ≤ length xs) (lent : length ys ≡ treePlaces) (short : length src ≤ maxSource) (bytes : every isAscii src ≡ true) where
     answers : (r : Answer) → Tries (λ b. only (blockNode b)) src (take treePlaces xs) 0 ys (λ n. program src n) (8 * left start) 0 16 start r → Answers src (ys ++ drop treePlaces xs) (concludedOf r)
-    unfolding Answers Safe Means parse parsed left sizes encs
+    unfolding Answers Safe Means parse parsed left looked sizes encs
     answers (Node e d) h =
         let b = h .means fuel (omega arith) (record { seen = 0; at = 0 }) (start-stands src) in
         let w = b .wrote in

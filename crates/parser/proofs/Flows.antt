@@ -21,7 +21,7 @@ use Rattle.parser.specs.Grammar.{cond, stmt, bodyOf, stmts, ifNode, mapO
 use Rattle.parser.specs.Parts.{only, condition}
 use Rattle.parser.specs.Pieces.{statement, body, looped, conditional, elsePart}
 use Rattle.parser.specs.Written.{Wrote, Seals}
-use Rattle.parser.specs.See.{Sees, Wants, whyOf, markOf}
+use Rattle.parser.specs.See.{Sees, Wants, whyOf}
 use Rattle.parser.specs.Meets.{Room, Grew, Safe, Made, Quiet, Means, Meets, Reads, Tries}
 use Rattle.parser.specs.Quiet.{quietedOf}
 use Rattle.parser.proofs.Seeing.{saw, no-look, took, no-mark, next-is, next-is-not}
@@ -98,13 +98,13 @@ module _ (src : List ℕ) (o : ℕ) where
   else-refused h e q n l k s = next-refused src elseWord _ _ k (no-look h e q k s)
 
   module _ {c d : Cursor} {v : Seen} (h : Sees src c v) (at : v ≡ At d) where
-    pub else-absent : (markOf (d .token) ≡ placeOf elseWord → ⊥) → {xs : List ℕ} {u : ℕ} → Room src xs u 0 c → Tries statement src xs u xs (λ n. elsePart src n o) (8 * left c + 3) 8 0 c (Nothing d)
+    pub else-absent : (d .kind ≡ placeOf elseWord → ⊥) → {xs : List ℕ} {u : ℕ} → Room src xs u 0 c → Tries statement src xs u xs (λ n. elsePart src n o) (8 * left c + 3) 8 0 c (Nothing d)
     unfolding elsePart
     else-absent i p =
         nothing (omega (arith, saw h at (p .place) (p .stands) .1 .same))
         (λ n l k s. let y = saw h at k s .1 in record { value = none; empty = refl; at = k; is = next-is-not y elseWord _ _ i; stands = y .stands; wrote = wrote-none (omega (arith, p .room)) })
 
-    pub else-there : {t : Cursor} → t ≡ taken d → markOf (d .token) ≡ placeOf elseWord → (n : ℕ) → 8 * left c + 3 ≤ n → (k : Place) → Stands src c k → Moved src (λ n. stmt src n o) (8 * left t + 3) t (elsePart src n o k)
+    pub else-there : {t : Cursor} → t ≡ taken d → d .kind ≡ placeOf elseWord → (n : ℕ) → 8 * left c + 3 ≤ n → (k : Place) → Stands src c k → Moved src (λ n. stmt src n o) (8 * left t + 3) t (elsePart src n o k)
     unfolding elsePart
     else-there {t} e i n l k s =
         let p = saw h at k s .1 in

@@ -1,14 +1,22 @@
 -- Names and literals: the word that a token says, and the leaf that is written of it.
 use mathlib.Core.Path.{_≡_, refl, sym, ap, _∙_}
+use mathlib.Core.Bool.{Bool, true, false}
 use mathlib.Core.List.{List, _++_}
 use Prim.Native.Nat.{ℕ, suc, _+_, _*_, _≤_}
 use native.Mathlib.Omega.{arith}
+use lib.Dec.{ltb}
+use lib.IntN.{pos}
 use lib.ListN.{length, take, drop, length-drop}
 use lib.Seq.{length-take-le}
-use lib.IntN.{pos, negsuc}
-use Rattle.lexer.specs.Tokens.{Name, Token as Word, name, number, token}
-use Rattle.lexer.specs.Cursor.{Cursor as Place, got, look}
+use mir.Syntax.{w64}
+use mir.Val.{toZ}
+use mir.Facts.{toZ-pos}
+use Rattle.numbers.specs.Limits.{greatest, maxTokens}
+use Rattle.lexer.specs.Tokens.{Name, Token as Word, name, number, Found, token, bad, tooBig, endOfText, lexAt}
+use Rattle.lexer.specs.Cursor.{Cursor as Place, got, counted, judge, look}
+use Rattle.lexer.specs.Names.{literal-fits}
 use Rattle.lexer.specs.Meaning.{sees, meaning, nameAt}
+use Rattle.lexer.specs.Kinds.{held}
 use Rattle.lexer.specs.Stands.{left}
 use Rattle.lexer.specs.declared.token.Token.{Token}
 use Rattle.lexer.specs.declared.token.Token.the-variants.{Identifier, Integer}
@@ -21,13 +29,32 @@ use Rattle.parser.specs.Meets.{Grew}
 use Rattle.parser.proofs.Writing.{wrote-one}
 
 -- the word that a token of the code says is the one that was looked at
-pub looked-at : {src : List ℕ} {c d : Cursor} {k : Place} {w : Word} → Saw src c d k w → (t : Token) (v : Word) → d .token ≡ t → meaning src t ≡ sees (token v) → look src k ≡ got v k
+pub looked-at : {src : List ℕ} {c d : Cursor} {k : Place} {w : Word} → Saw src c d k w → (t : Token) (v : Word) → held d ≡ t → meaning src t ≡ sees (token v) → look src k ≡ got v k
 looked-at {src} {c} {d} {k} {w} s t v e m = let q : w ≡ v = cc (s .means, ap (meaning src) e) in rw q at (s .looks)
 
--- a literal is not negative
-pub literal-of : {src : List ℕ} {c d : Cursor} {k : Place} {w : Word} → Saw src c d k w → (v : _) → d .token ≡ Integer v → (x : ℕ) × ((v ≡ pos x) × (look src k ≡ got (number x) k))
-literal-of s (pos x) e = (x, (refl, looked-at s (Integer (pos x)) (number x) e refl))
-literal-of {src} s (negsuc x) e = absurd (let z : _≡_ {A = ℕ} 0 1 = cc (s .means, ap (meaning src) e) in omega arith)
+-- what a look gets was found
+got-found : (f : Found) (w : Word) (k : Place) → judge f k ≡ got w k → f ≡ token w
+unfolding judge counted
+got-found f w k = by f (ltb (k .seen) maxTokens) refl
+  where
+    by : (f : Found) (b : Bool) → ltb (k .seen) maxTokens ≡ b → judge f k ≡ got w k → f ≡ token w
+    by (token t) true q e = (let z : got t k ≡ got w k = rw (q, counted) at e in cc)
+    by (token t) false q e = cc (rw (q, counted) at e)
+    by bad true q e = cc (rw (q, counted) at e)
+    by bad false q e = cc (rw (q, counted) at e)
+    by tooBig true q e = cc (rw (q, counted) at e)
+    by tooBig false q e = cc (rw (q, counted) at e)
+    by endOfText b q e = cc
+
+-- a literal is the one that was looked at, and within i64
+pub literal-of : {src : List ℕ} {c d : Cursor} {k : Place} {w : Word} → Saw src c d k w → (v : ℕ) → held d ≡ Integer v → (v ≤ greatest) × (look src k ≡ got (number v) k)
+unfolding look
+literal-of {src} {k = k} s v e =
+    let l = looked-at s (Integer v) (number v) e refl in
+    (literal-fits src (k .at) v (got-found (lexAt src (k .at) .found) (number v) k l), l)
+
+pub literal-pos : {v : ℕ} → v ≤ greatest → toZ w64 v ≡ pos v
+literal-pos h = toZ-pos w64 (omega arith)
 
 -- how long a name is
 pub name-length : (src : List ℕ) (at n : ℕ) → at + n ≤ length src → length (take n (drop at src)) ≡ n

@@ -25,7 +25,7 @@ use Rattle.parser.specs.Pieces.{statement, assigned, called, reading, wr
 use Rattle.parser.specs.Lists.{closed, Ended as Closing, Ends}
 use Rattle.parser.specs.Arguments.{Argues}
 use Rattle.parser.specs.Written.{Wrote, Seals}
-use Rattle.parser.specs.See.{Sees, Wants, whyOf, markOf}
+use Rattle.parser.specs.See.{Sees, Wants, whyOf}
 use Rattle.parser.specs.Meets.{Room, Grew, Safe, Made, Means, Meets, Reads, Tries}
 use Rattle.parser.proofs.Seeing.{saw, no-look, took, no-mark, next-is, next-is-not}
 use Rattle.parser.proofs.Writing.{wrote-more}
@@ -129,7 +129,7 @@ module _ (src : List ℕ) (o : ℕ) where
 
       module _ {e : Cursor} (at′ : v′ ≡ At e) (fw : suc (left t) ≡ left d) where
         -- no arguments
-        pub called-none : markOf (e .token) ≡ placeOf closeSign → {f : Cursor} → f ≡ taken e → suc (left f) ≡ left t → {zs : List ℕ} → Seals u (nodeNo callKind) 0 1 i ys zs
+        pub called-none : e .kind ≡ placeOf closeSign → {f : Cursor} → f ≡ taken e → suc (left f) ≡ left t → {zs : List ℕ} → Seals u (nodeNo callKind) 0 1 i ys zs
             → Tries statement src xs u zs (λ n. called src n o) (8 * left c + 3) 8 0 c (Node i f)
         unfolding called Safe Means stmtNode listNodes count
         called-none is {f} tk fw′ z =
@@ -150,7 +150,7 @@ module _ (src : List ℕ) (o : ℕ) where
             }
 
         -- arguments
-        pub called-some : (markOf (e .token) ≡ placeOf closeSign → ⊥) → left e ≡ left t → {v₀ s₀ : ℕ} {zs₀ : List ℕ} → Room src zs₀ v₀ s₀ c → {zs : List ℕ} (r′ : Answer) → Argues src o u (nodeNo callKind) 1 i ys zs e r′
+        pub called-some : (e .kind ≡ placeOf closeSign → ⊥) → left e ≡ left t → {v₀ s₀ : ℕ} {zs₀ : List ℕ} → Room src zs₀ v₀ s₀ c → {zs : List ℕ} (r′ : Answer) → Argues src o u (nodeNo callKind) 1 i ys zs e r′
             → Tries statement src xs u zs (λ n. called src n o) (8 * left c + 3) 8 0 c r′
         unfolding called Safe Means stmtNode join count
         called-some is-not same p₀ {zs} (Node j f) a =

@@ -2,14 +2,15 @@
 use mathlib.Core.Path.{_≡_, refl, ap, _∙_}
 use mathlib.Core.List.{List, [], _∷_, _++_}
 use Prim.Native.Nat.{ℕ, suc, _+_, _≤_}
-use lib.IntN.{pos}
 use lib.ListN.{length, take as front}
 use types.Run.{OneOf, miss}
 use Rattle.numbers.specs.Panel.{tokenMissing}
 use Rattle.lexer.specs.Tokens.{Token as Word, mark, name, number}
 use Rattle.lexer.specs.Cursor.{Cursor as Place, refuse, take}
 use Rattle.lexer.specs.Meaning.{nameAt}
+use Rattle.lexer.specs.Kinds.{held}
 use Rattle.lexer.specs.Stands.{taken, past, left}
+use Rattle.lexer.specs.declared.token.Token.{Token}
 use Rattle.lexer.specs.declared.token.Token.the-variants.{Identifier, Integer}
 use Rattle.lexer.specs.declared.cursor.Cursor.{Cursor}
 use Rattle.tree.specs.Layout.{word, literal, enc}
@@ -58,21 +59,21 @@ module _ {src : List ℕ} {c : Cursor} {v : Seen} (h : Sees src c v) where
 
   module _ {d : Cursor} (at : v ≡ At d) where
     -- it is another token
-    pub name-other : {m : ℕ} → OneOf noNames (tag (d .token)) → Refuses src (λ n. wantName src) m c tokenMissing
+    pub name-other : {m : ℕ} {t : Token} → t ≡ held d → OneOf noNames (tag t) → Refuses src (λ n. wantName src) m c tokenMissing
     unfolding wantName
-    name-other o n l k s =
+    name-other q o n l k s =
         let p = saw h at k s in
-        ap (then _) (p .1 .looks) ∙ no-name src k (p .0) (rw (known src (d .token) (p .0) (p .1 .means) .1) at o)
+        ap (then _) (p .1 .looks) ∙ no-name src k (p .0) (rw (ap tag q ∙ known src (held d) (p .0) (p .1 .means) .1) at o)
 
-    pub number-other : {m : ℕ} → OneOf noNumbers (tag (d .token)) → Refuses src (λ n. wantNumber src) m c tokenMissing
+    pub number-other : {m : ℕ} {t : Token} → t ≡ held d → OneOf noNumbers (tag t) → Refuses src (λ n. wantNumber src) m c tokenMissing
     unfolding wantNumber
-    number-other o n l k s =
+    number-other q o n l k s =
         let p = saw h at k s in
-        ap (then _) (p .1 .looks) ∙ no-number src k (p .0) (rw (known src (d .token) (p .0) (p .1 .means) .1) at o)
+        ap (then _) (p .1 .looks) ∙ no-number src k (p .0) (rw (ap tag q ∙ known src (held d) (p .0) (p .1 .means) .1) at o)
 
     -- it is there, and its leaf was written
     module _ {t : Cursor} (took : t ≡ taken d) (fewer : suc (left t) ≡ left c) {xs ys : List ℕ} {u e : ℕ} (fits : u ≤ length xs) (ends : e ≡ u + 4) where
-      pub name-there : (a n : ℕ) → d .token ≡ Identifier a n → a + n ≤ length src → front e ys ≡ front u xs ++ enc (word 0 a n)
+      pub name-there : (a n : ℕ) → held d ≡ Identifier a n → a + n ≤ length src → front e ys ≡ front u xs ++ enc (word 0 a n)
           → Reads (λ n. only (nameNode n)) src xs u ys (λ n. wantName src) 0 8 0 c (Node e t)
       unfolding Safe Means wantName nameIn taking take
       name-there a n i inside lies = record {
@@ -88,19 +89,12 @@ module _ {src : List ℕ} {c : Cursor} {v : Seen} (h : Sees src c v) where
             };
       }
 
-      pub number-there : (x : _) → d .token ≡ Integer x → ((v : ℕ) → x ≡ pos v → front e ys ≡ front u xs ++ enc (literal 0 v))
+      pub number-there : (v : ℕ) → held d ≡ Integer v → front e ys ≡ front u xs ++ enc (literal 0 v)
           → Reads (λ v. only (literal 0 v)) src xs u ys (λ n. wantNumber src) 0 8 0 c (Node e t)
       unfolding Safe Means wantNumber numberIn taking take
-      number-there x i lies = record {
+      number-there v i lies = record {
         safe = leaf-grew ends fewer;
         means = λ y l k s.
             let p = saw h at k s .1 in
-            let z = literal-of p x i in
-            record {
-              value = z .0;
-              at = past src k;
-              is = ap (then _) (z .1 .1);
-              stands = rw took (p .beyond);
-              wrote = wrote-number 0 (z .0) fits ends (lies (z .0) (z .1 .0));
-            };
+            record { value = v; at = past src k; is = ap (then _) (literal-of p v i .1); stands = rw took (p .beyond); wrote = wrote-number 0 v fits ends lies };
       }

@@ -1,26 +1,27 @@
--- The tokens of the code and the words of the definitions: which mark, and which variant, a word is. A `_` of a `match` tells some variants' numbers.
+-- The tokens of the code and the words of the definitions: which kind, and which variant, a word is. A `_` of a `match` tells some variants' numbers.
 use mathlib.Core.Path.{_≡_, refl, sym, ap}
 use mathlib.Core.Bool.{true, false}
 use mathlib.Core.List.{List, [], _∷_}
-use Prim.Native.Nat.{ℕ}
-use lib.Dec.{eqb}
-use lib.IntN.{pos, negsuc}
+use Prim.Native.Nat.{ℕ, _≤_, _<_}
+use native.Mathlib.Omega.{arith}
+use lib.Dec.{eqb, ltb}
+use borrow.Author.Tests.{ne-eqb, ltb-true}
 use types.Run.{OneOf, miss}
 use denote.Enum.Declared.{tagOf}
 use Rattle.lexer.proofs.token.Token as Tok
 use Rattle.lexer.specs.Marks.{Mark, ifWord, thenWord, elseWord, whileWord, doWord, constWord, varWord, procedureWord, programWord, beginWord, endWord, callWord, readWord, writeWord, oddWord, plusSign, minusSign, timesSign, divideSign, equalSign, lessSign, greaterSign, atMostSign, atLeastSign, unequalSign, becomesSign, openSign, closeSign, semicolonSign, commaSign, placeOf, same}
 use Rattle.lexer.specs.Tokens.{Token as Word, mark, name, number, token}
-use Rattle.lexer.specs.Meaning.{sees, senseless, meaning}
+use Rattle.lexer.specs.Meaning.{sees, meaning}
+use Rattle.lexer.specs.Kinds.{kindOf}
 use Rattle.lexer.specs.declared.token.Token.{Token}
 use Rattle.lexer.specs.declared.token.Token.the-variants.{If, Then, Else, While, Do, Const, Var, Procedure, Program, Begin, End, Call, Read, Write, Odd, Add, Sub, Mul, Div, Eq, Lt, Gt, Le, Ge, Ne, EqSign, ParL, ParR, Semicolon, Comma, Identifier, Integer, LexicalError, TooBig, TooMany, EndOfText}
 use Rattle.parser.specs.Reader.{isMark}
-use Rattle.parser.specs.See.{markOf, noMark}
 
--- the place of a word's mark
-unfoldable pub placeIn : Word → ℕ
-placeIn (mark m) = placeOf m
-placeIn (name n) = noMark
-placeIn (number v) = noMark
+-- the kind of a word
+unfoldable pub kindIn : Word → ℕ
+kindIn (mark m) = placeOf m
+kindIn (name n) = 30
+kindIn (number v) = 31
 
 -- the number of a word's variant among the tokens of the code
 unfoldable pub tagIn : Word → ℕ
@@ -63,131 +64,128 @@ tag t = tagOf Tok.the-type t
 word : {v w : Word} → sees (token v) ≡ sees (token w) → v ≡ w
 word e = cc
 
--- which word a token says is told by its mark and by its variant
-pub known : (src : List ℕ) (t : Token) (w : Word) → meaning src t ≡ sees (token w) → (markOf t ≡ placeIn w) × (tag t ≡ tagIn w)
-unfolding placeIn tagIn placeOf
-known src If w e = (ap placeIn (word e), ap tagIn (word e))
-known src Then w e = (ap placeIn (word e), ap tagIn (word e))
-known src Else w e = (ap placeIn (word e), ap tagIn (word e))
-known src While w e = (ap placeIn (word e), ap tagIn (word e))
-known src Do w e = (ap placeIn (word e), ap tagIn (word e))
-known src Const w e = (ap placeIn (word e), ap tagIn (word e))
-known src Var w e = (ap placeIn (word e), ap tagIn (word e))
-known src Procedure w e = (ap placeIn (word e), ap tagIn (word e))
-known src Program w e = (ap placeIn (word e), ap tagIn (word e))
-known src Begin w e = (ap placeIn (word e), ap tagIn (word e))
-known src End w e = (ap placeIn (word e), ap tagIn (word e))
-known src Call w e = (ap placeIn (word e), ap tagIn (word e))
-known src Read w e = (ap placeIn (word e), ap tagIn (word e))
-known src Write w e = (ap placeIn (word e), ap tagIn (word e))
-known src Odd w e = (ap placeIn (word e), ap tagIn (word e))
-known src Add w e = (ap placeIn (word e), ap tagIn (word e))
-known src Sub w e = (ap placeIn (word e), ap tagIn (word e))
-known src Mul w e = (ap placeIn (word e), ap tagIn (word e))
-known src Div w e = (ap placeIn (word e), ap tagIn (word e))
-known src Eq w e = (ap placeIn (word e), ap tagIn (word e))
-known src Lt w e = (ap placeIn (word e), ap tagIn (word e))
-known src Gt w e = (ap placeIn (word e), ap tagIn (word e))
-known src Le w e = (ap placeIn (word e), ap tagIn (word e))
-known src Ge w e = (ap placeIn (word e), ap tagIn (word e))
-known src Ne w e = (ap placeIn (word e), ap tagIn (word e))
-known src EqSign w e = (ap placeIn (word e), ap tagIn (word e))
-known src ParL w e = (ap placeIn (word e), ap tagIn (word e))
-known src ParR w e = (ap placeIn (word e), ap tagIn (word e))
-known src Semicolon w e = (ap placeIn (word e), ap tagIn (word e))
-known src Comma w e = (ap placeIn (word e), ap tagIn (word e))
-known src (Identifier a n) w e = (ap placeIn (word e), ap tagIn (word e))
-known src (Integer (pos v)) w e = (ap placeIn (word e), ap tagIn (word e))
-known src (Integer (negsuc v)) w e = (cc, cc)
+-- which word a token says is told by its kind and by its variant
+pub known : (src : List ℕ) (t : Token) (w : Word) → meaning src t ≡ sees (token w) → (kindOf t ≡ kindIn w) × (tag t ≡ tagIn w)
+unfolding kindIn tagIn placeOf
+known src If w e = (ap kindIn (word e), ap tagIn (word e))
+known src Then w e = (ap kindIn (word e), ap tagIn (word e))
+known src Else w e = (ap kindIn (word e), ap tagIn (word e))
+known src While w e = (ap kindIn (word e), ap tagIn (word e))
+known src Do w e = (ap kindIn (word e), ap tagIn (word e))
+known src Const w e = (ap kindIn (word e), ap tagIn (word e))
+known src Var w e = (ap kindIn (word e), ap tagIn (word e))
+known src Procedure w e = (ap kindIn (word e), ap tagIn (word e))
+known src Program w e = (ap kindIn (word e), ap tagIn (word e))
+known src Begin w e = (ap kindIn (word e), ap tagIn (word e))
+known src End w e = (ap kindIn (word e), ap tagIn (word e))
+known src Call w e = (ap kindIn (word e), ap tagIn (word e))
+known src Read w e = (ap kindIn (word e), ap tagIn (word e))
+known src Write w e = (ap kindIn (word e), ap tagIn (word e))
+known src Odd w e = (ap kindIn (word e), ap tagIn (word e))
+known src Add w e = (ap kindIn (word e), ap tagIn (word e))
+known src Sub w e = (ap kindIn (word e), ap tagIn (word e))
+known src Mul w e = (ap kindIn (word e), ap tagIn (word e))
+known src Div w e = (ap kindIn (word e), ap tagIn (word e))
+known src Eq w e = (ap kindIn (word e), ap tagIn (word e))
+known src Lt w e = (ap kindIn (word e), ap tagIn (word e))
+known src Gt w e = (ap kindIn (word e), ap tagIn (word e))
+known src Le w e = (ap kindIn (word e), ap tagIn (word e))
+known src Ge w e = (ap kindIn (word e), ap tagIn (word e))
+known src Ne w e = (ap kindIn (word e), ap tagIn (word e))
+known src EqSign w e = (ap kindIn (word e), ap tagIn (word e))
+known src ParL w e = (ap kindIn (word e), ap tagIn (word e))
+known src ParR w e = (ap kindIn (word e), ap tagIn (word e))
+known src Semicolon w e = (ap kindIn (word e), ap tagIn (word e))
+known src Comma w e = (ap kindIn (word e), ap tagIn (word e))
+known src (Identifier a n) w e = (ap kindIn (word e), ap tagIn (word e))
+known src (Integer v) w e = (ap kindIn (word e), ap tagIn (word e))
 known src LexicalError w e = (cc, cc)
 known src TooBig w e = (cc, cc)
 known src TooMany w e = (cc, cc)
 known src EndOfText w e = (cc, cc)
 
--- no mark has the number of what is none
-no-mark : (m : Mark) → eqb noMark (placeOf m) ≡ false
+-- every mark has its place below those of the names and literals
+mark-first : (m : Mark) → ltb (placeOf m) 30 ≡ true
 unfolding placeOf
-no-mark ifWord = refl
-no-mark thenWord = refl
-no-mark elseWord = refl
-no-mark whileWord = refl
-no-mark doWord = refl
-no-mark constWord = refl
-no-mark varWord = refl
-no-mark procedureWord = refl
-no-mark programWord = refl
-no-mark beginWord = refl
-no-mark endWord = refl
-no-mark callWord = refl
-no-mark readWord = refl
-no-mark writeWord = refl
-no-mark oddWord = refl
-no-mark plusSign = refl
-no-mark minusSign = refl
-no-mark timesSign = refl
-no-mark divideSign = refl
-no-mark equalSign = refl
-no-mark lessSign = refl
-no-mark greaterSign = refl
-no-mark atMostSign = refl
-no-mark atLeastSign = refl
-no-mark unequalSign = refl
-no-mark becomesSign = refl
-no-mark openSign = refl
-no-mark closeSign = refl
-no-mark semicolonSign = refl
-no-mark commaSign = refl
+mark-first ifWord = refl
+mark-first thenWord = refl
+mark-first elseWord = refl
+mark-first whileWord = refl
+mark-first doWord = refl
+mark-first constWord = refl
+mark-first varWord = refl
+mark-first procedureWord = refl
+mark-first programWord = refl
+mark-first beginWord = refl
+mark-first endWord = refl
+mark-first callWord = refl
+mark-first readWord = refl
+mark-first writeWord = refl
+mark-first oddWord = refl
+mark-first plusSign = refl
+mark-first minusSign = refl
+mark-first timesSign = refl
+mark-first divideSign = refl
+mark-first equalSign = refl
+mark-first lessSign = refl
+mark-first greaterSign = refl
+mark-first atMostSign = refl
+mark-first atLeastSign = refl
+mark-first unequalSign = refl
+mark-first becomesSign = refl
+mark-first openSign = refl
+mark-first closeSign = refl
+mark-first semicolonSign = refl
+mark-first commaSign = refl
+
+no-mark : (n : ℕ) → 30 ≤ n → (m : Mark) → eqb n (placeOf m) ≡ false
+no-mark n h m = let f : placeOf m < 30 = ltb-true (placeOf m) 30 (mark-first m) in ne-eqb n (placeOf m) (λ e. omega (arith, e, f))
 
 -- a word is a mark where the numbers agree
-pub is-mark : (m : Mark) (w : Word) → isMark m w ≡ eqb (placeIn w) (placeOf m)
-unfolding isMark same placeIn
+pub is-mark : (m : Mark) (w : Word) → isMark m w ≡ eqb (kindIn w) (placeOf m)
+unfolding isMark same kindIn
 is-mark m (mark k) = refl
-is-mark m (name n) = sym (no-mark m)
-is-mark m (number v) = sym (no-mark m)
+is-mark m (name n) = sym (no-mark 30 (omega arith) m)
+is-mark m (number v) = sym (no-mark 31 (omega arith) m)
 
--- the variants that are words
-abbrev pub words : List ℕ
-words = 0 ∷ 1 ∷ 2 ∷ 3 ∷ 4 ∷ 5 ∷ 6 ∷ 7 ∷ 8 ∷ 9 ∷ 10 ∷ 11 ∷ 12 ∷ 13 ∷ 14 ∷ 15 ∷ 16 ∷ 17 ∷ 18 ∷ 19 ∷ 20 ∷ 21 ∷ 22 ∷ 23 ∷ 24 ∷ 25 ∷ 26 ∷ 27 ∷ 28 ∷ 29 ∷ 30 ∷ 31 ∷ []
-
--- a token of such a variant says a word, unless it says nothing at all
-pub shown : (src : List ℕ) (t : Token) → OneOf words (tag t) → (meaning src t ≡ senseless → ⊥) → (w : Word) × (meaning src t ≡ sees (token w))
-shown src If h s = (_, refl)
-shown src Then h s = (_, refl)
-shown src Else h s = (_, refl)
-shown src While h s = (_, refl)
-shown src Do h s = (_, refl)
-shown src Const h s = (_, refl)
-shown src Var h s = (_, refl)
-shown src Procedure h s = (_, refl)
-shown src Program h s = (_, refl)
-shown src Begin h s = (_, refl)
-shown src End h s = (_, refl)
-shown src Call h s = (_, refl)
-shown src Read h s = (_, refl)
-shown src Write h s = (_, refl)
-shown src Odd h s = (_, refl)
-shown src Add h s = (_, refl)
-shown src Sub h s = (_, refl)
-shown src Mul h s = (_, refl)
-shown src Div h s = (_, refl)
-shown src Eq h s = (_, refl)
-shown src Lt h s = (_, refl)
-shown src Gt h s = (_, refl)
-shown src Le h s = (_, refl)
-shown src Ge h s = (_, refl)
-shown src Ne h s = (_, refl)
-shown src EqSign h s = (_, refl)
-shown src ParL h s = (_, refl)
-shown src ParR h s = (_, refl)
-shown src Semicolon h s = (_, refl)
-shown src Comma h s = (_, refl)
-shown src (Identifier a n) h s = (_, refl)
-shown src (Integer (pos v)) h s = (_, refl)
-shown src (Integer (negsuc v)) h s = absurd (s refl)
-shown src LexicalError h s = absurd (miss words 32 tt h)
-shown src TooBig h s = absurd (miss words 33 tt h)
-shown src TooMany h s = absurd (miss words 34 tt h)
-shown src EndOfText h s = absurd (miss words 35 tt h)
+-- a token that is none of those refused says a word
+pub shown : (src : List ℕ) (t : Token) → (kindOf t ≡ 32 → ⊥) → (kindOf t ≡ 33 → ⊥) → (kindOf t ≡ 34 → ⊥) → (kindOf t ≡ 35 → ⊥) → (w : Word) × (meaning src t ≡ sees (token w))
+shown src If a b d e = (_, refl)
+shown src Then a b d e = (_, refl)
+shown src Else a b d e = (_, refl)
+shown src While a b d e = (_, refl)
+shown src Do a b d e = (_, refl)
+shown src Const a b d e = (_, refl)
+shown src Var a b d e = (_, refl)
+shown src Procedure a b d e = (_, refl)
+shown src Program a b d e = (_, refl)
+shown src Begin a b d e = (_, refl)
+shown src End a b d e = (_, refl)
+shown src Call a b d e = (_, refl)
+shown src Read a b d e = (_, refl)
+shown src Write a b d e = (_, refl)
+shown src Odd a b d e = (_, refl)
+shown src Add a b d e = (_, refl)
+shown src Sub a b d e = (_, refl)
+shown src Mul a b d e = (_, refl)
+shown src Div a b d e = (_, refl)
+shown src Eq a b d e = (_, refl)
+shown src Lt a b d e = (_, refl)
+shown src Gt a b d e = (_, refl)
+shown src Le a b d e = (_, refl)
+shown src Ge a b d e = (_, refl)
+shown src Ne a b d e = (_, refl)
+shown src EqSign a b d e = (_, refl)
+shown src ParL a b d e = (_, refl)
+shown src ParR a b d e = (_, refl)
+shown src Semicolon a b d e = (_, refl)
+shown src Comma a b d e = (_, refl)
+shown src (Identifier i n) a b d e = (_, refl)
+shown src (Integer v) a b d e = (_, refl)
+shown src LexicalError a b d e = absurd (a refl)
+shown src TooBig a b d e = absurd (b refl)
+shown src TooMany a b d e = absurd (d refl)
+shown src EndOfText a b d e = absurd (e refl)
 
 -- the variants that start no factor
 abbrev pub noFactor : List ℕ

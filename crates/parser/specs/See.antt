@@ -4,13 +4,12 @@ use mathlib.Core.List.{List}
 use mathlib.Core.Bool.{true, false}
 use Prim.Native.Nat.{ℕ, suc}
 use lib.Dec.{eqb}
-use Rattle.lexer.specs.Marks.{Mark, placeOf}
-use Rattle.lexer.specs.Tokens.{Token as Word, mark, name, number, token}
+use Rattle.lexer.specs.Marks.{Mark}
+use Rattle.lexer.specs.Tokens.{Token as Word, token}
 use Rattle.lexer.specs.Cursor.{Cursor as Place, got, refuse, look}
 use Rattle.lexer.specs.Meaning.{sees, meaning, Inside}
+use Rattle.lexer.specs.Kinds.{kindOf, held}
 use Rattle.lexer.specs.Stands.{Stands, taken, past, left}
-use Rattle.lexer.specs.declared.token.Token.{Token}
-use Rattle.lexer.specs.declared.token.Token.the-variants.{If, Then, Else, While, Do, Const, Var, Procedure, Program, Begin, End, Call, Read, Write, Odd, Add, Sub, Mul, Div, Eq, Lt, Gt, Le, Ge, Ne, EqSign, ParL, ParR, Semicolon, Comma, Identifier, Integer, LexicalError, TooBig, TooMany, EndOfText}
 use Rattle.lexer.specs.declared.cursor.Cursor.{Cursor}
 use Rattle.parser.specs.declared.see.Seen.{Seen}
 use Rattle.parser.specs.declared.see.Seen.the-variants.{At, Refused}
@@ -18,8 +17,9 @@ use Rattle.parser.specs.Reader.{want}
 
 -- the token w at the place k was looked at by a cursor that stood there as c, and stands there as d
 pub record Saw (src : List ℕ) (c d : Cursor) (k : Place) (w : Word) : Type 0 where
-  pub means : meaning src (d .token) ≡ sees (token w)
-  pub inside : Inside src (d .token)
+  pub kind : d .kind ≡ kindOf (held d)
+  pub means : meaning src (held d) ≡ sees (token w)
+  pub inside : Inside src (held d)
   pub looks : look src k ≡ got w k
   pub stands : Stands src d k
   pub beyond : Stands src (taken d) (past src k)
@@ -38,49 +38,6 @@ pub record Sees (src : List ℕ) (c : Cursor) (r : Seen) : Type 0 where
 abbrev pub whyOf : Seen → ℕ
 whyOf (At c) = 0
 whyOf (Refused n) = n
-
--- the number of what is no mark
-abbrev pub noMark : ℕ
-noMark = 30
-
--- the place of a token's mark in 01's order
-abbrev pub markOf : Token → ℕ
-markOf If = 0
-markOf Then = 1
-markOf Else = 2
-markOf While = 3
-markOf Do = 4
-markOf Const = 5
-markOf Var = 6
-markOf Procedure = 7
-markOf Program = 8
-markOf Begin = 9
-markOf End = 10
-markOf Call = 11
-markOf Read = 12
-markOf Write = 13
-markOf Odd = 14
-markOf Add = 15
-markOf Sub = 16
-markOf Mul = 17
-markOf Div = 18
-markOf Eq = 21
-markOf Lt = 24
-markOf Gt = 25
-markOf Le = 26
-markOf Ge = 27
-markOf Ne = 28
-markOf EqSign = 29
-markOf ParL = 19
-markOf ParR = 20
-markOf Semicolon = 22
-markOf Comma = 23
-markOf (Identifier at n) = noMark
-markOf (Integer v) = noMark
-markOf LexicalError = noMark
-markOf TooBig = noMark
-markOf TooMany = noMark
-markOf EndOfText = noMark
 
 -- how the operand after a mark joins what stands before it: two marks are operators, with their numbers
 unfoldable pub operatorOf : (a x b y m : ℕ) → ℕ

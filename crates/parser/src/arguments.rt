@@ -5,6 +5,7 @@ use crate::lists::end_list;
 use crate::see;
 use crate::see::Seen;
 use lexer::Cursor;
+use lexer::kinds;
 ghost use Prim.Native.Nat.{_+_, _≤_};
 ghost use Rattle.parser.specs.Arguments.{Argues};
 ghost use Rattle.parser.specs.Meets.{Room};
@@ -38,9 +39,8 @@ pub fn parse_exps(
         let Seen::At(f) = s else {
             return Answer::Refused(see::why(s));
         };
-        let t = f.token;
-        if see::mark(t) != see::COMMA {
-            return end_list(text, tree, used, kind, see::CLOSE, count, end, f);
+        if see::mark(f) != kinds::COMMA {
+            return end_list(text, tree, used, kind, kinds::CLOSE, count, end, f);
         }
         c = f.take();
     }

@@ -6,6 +6,7 @@ use crate::see;
 use crate::see::Seen;
 use lexer::Cursor;
 use lexer::Token;
+use lexer::kinds;
 ghost use Prim.Native.Nat.{_+_, _*_};
 ghost use Rattle.lexer.specs.Stands.{left};
 ghost use Rattle.parser.specs.Grammar.{cond};
@@ -50,8 +51,7 @@ pub fn parse_l_exp(text: &[u8], tree: &mut [u32], used: usize, depth: usize, cur
     let Seen::At(c) = s else {
         return Answer::Refused(see::why(s));
     };
-    let t = c.token;
-    if see::mark(t) == see::ODD {
+    if see::mark(c) == kinds::ODD {
         return parse_odd(text, tree, used, depth, c.take());
     }
     parse_comparison(text, tree, used, depth, c)
@@ -83,7 +83,7 @@ fn parse_comparison(text: &[u8], tree: &mut [u32], used: usize, depth: usize, cu
     let Seen::At(d) = s else {
         return Answer::Refused(see::why(s));
     };
-    let t = d.token;
+    let t = d.token();
     let op = comparison(t);
     if op == NO_COMPARISON {
         return Answer::Refused(see::TOKEN_MISSING);

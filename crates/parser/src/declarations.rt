@@ -8,6 +8,7 @@ use crate::nodes::seal;
 use crate::see;
 use crate::see::Seen;
 use lexer::Cursor;
+use lexer::kinds;
 ghost use Prim.Native.Nat.{_+_, _*_};
 ghost use Rattle.lexer.specs.Marks.{semicolonSign};
 ghost use Rattle.lexer.specs.Stands.{left};
@@ -27,7 +28,7 @@ pub fn parse_const(text: &[u8], tree: &mut [u32], used: usize, cur: Cursor) -> A
     let Answer::Node(named, c) = r else {
         return r;
     };
-    let s = see::want(text, c, see::BECOMES);
+    let s = see::want(text, c, kinds::BECOMES);
     let Seen::At(d) = s else {
         return Answer::Refused(see::why(s));
     };
@@ -58,9 +59,17 @@ pub fn parse_consts(text: &[u8], tree: &mut [u32], used: usize, cur: Cursor) -> 
         let Seen::At(f) = s else {
             return Answer::Refused(see::why(s));
         };
-        let t = f.token;
-        if see::mark(t) != see::COMMA {
-            return end_list(text, tree, used, tree::LIST, see::SEMICOLON, count, end, f);
+        if see::mark(f) != kinds::COMMA {
+            return end_list(
+                text,
+                tree,
+                used,
+                tree::LIST,
+                kinds::SEMICOLON,
+                count,
+                end,
+                f,
+            );
         }
         c = f.take();
     }
@@ -75,8 +84,7 @@ pub fn parse_const_decl(text: &[u8], tree: &mut [u32], used: usize, cur: Cursor)
     let Seen::At(c) = s else {
         return Answer::Refused(see::why(s));
     };
-    let t = c.token;
-    if see::mark(t) == see::CONST {
+    if see::mark(c) == kinds::CONST {
         return parse_consts(text, tree, used, c.take());
     }
     Answer::Node(tree::push(tree, used, tree::LIST, 0, 0, 0), c)
@@ -91,9 +99,8 @@ pub fn parse_var_decl(text: &[u8], tree: &mut [u32], used: usize, cur: Cursor) -
     let Seen::At(c) = s else {
         return Answer::Refused(see::why(s));
     };
-    let t = c.token;
-    if see::mark(t) == see::VAR {
-        return parse_ids(text, tree, used, tree::LIST, see::SEMICOLON, c.take());
+    if see::mark(c) == kinds::VAR {
+        return parse_ids(text, tree, used, tree::LIST, kinds::SEMICOLON, c.take());
     }
     Answer::Node(tree::push(tree, used, tree::LIST, 0, 0, 0), c)
 }
@@ -107,9 +114,8 @@ pub fn parse_args(text: &[u8], tree: &mut [u32], used: usize, cur: Cursor) -> An
     let Seen::At(c) = s else {
         return Answer::Refused(see::why(s));
     };
-    let t = c.token;
-    if see::mark(t) != see::CLOSE {
-        return parse_ids(text, tree, used, tree::LIST, see::CLOSE, c);
+    if see::mark(c) != kinds::CLOSE {
+        return parse_ids(text, tree, used, tree::LIST, kinds::CLOSE, c);
     }
     Answer::Node(tree::push(tree, used, tree::LIST, 0, 0, 0), c.take())
 }

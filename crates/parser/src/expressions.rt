@@ -5,6 +5,7 @@ use crate::see;
 use crate::see::Seen;
 use lexer::Cursor;
 use lexer::Token;
+use lexer::kinds;
 ghost use mathlib.Core.Path.{_≡_};
 ghost use Prim.Native.Nat.{_+_, _*_};
 ghost use Rattle.lexer.specs.Stands.{left};
@@ -29,25 +30,25 @@ const MUL: u32 = 3;
 
 const DIV: u32 = 4;
 
-fn sum_op(m: u8) -> u32
+fn sum_op(m: usize) -> u32
     ensures { λ r. ⌜ r ≡ operatorOf 15 1 16 2 m ⌝ }
 {
-    if m == see::PLUS {
+    if m == kinds::PLUS {
         return ADD;
     }
-    if m == see::MINUS {
+    if m == kinds::MINUS {
         return SUB;
     }
     NO_OP
 }
 
-fn product_op(m: u8) -> u32
+fn product_op(m: usize) -> u32
     ensures { λ r. ⌜ r ≡ operatorOf 17 3 18 4 m ⌝ }
 {
-    if m == see::TIMES {
+    if m == kinds::TIMES {
         return MUL;
     }
-    if m == see::DIVIDE {
+    if m == kinds::DIVIDE {
         return DIV;
     }
     NO_OP
@@ -70,8 +71,7 @@ pub fn parse_exp(text: &[u8], tree: &mut [u32], used: usize, depth: usize, cur: 
         let Seen::At(d) = s else {
             return Answer::Refused(see::why(s));
         };
-        let t = d.token;
-        let op = sum_op(see::mark(t));
+        let op = sum_op(see::mark(d));
         if op == NO_OP {
             seal(tree, used, tree::CHAIN, NO_OP, count, end);
             return Answer::Node(end, d);
@@ -95,12 +95,11 @@ pub fn parse_signed(text: &[u8], tree: &mut [u32], used: usize, depth: usize, cu
     let Seen::At(c) = s else {
         return Answer::Refused(see::why(s));
     };
-    let t = c.token;
-    let m = see::mark(t);
-    if m == see::PLUS {
+    let m = see::mark(c);
+    if m == kinds::PLUS {
         return parse_term(text, tree, used, NO_OP, depth, c.take());
     }
-    if m == see::MINUS {
+    if m == kinds::MINUS {
         return parse_negated(text, tree, used, depth, c.take());
     }
     parse_term(text, tree, used, NO_OP, depth, c)
@@ -149,8 +148,7 @@ pub fn parse_term(
         let Seen::At(d) = s else {
             return Answer::Refused(see::why(s));
         };
-        let t = d.token;
-        let next = product_op(see::mark(t));
+        let next = product_op(see::mark(d));
         if next == NO_OP {
             seal(tree, used, tree::CHAIN, op, count, end);
             return Answer::Node(end, d);
@@ -181,12 +179,12 @@ pub fn parse_factor(
     let Seen::At(c) = s else {
         return Answer::Refused(see::why(s));
     };
-    let t = c.token;
+    let t = c.token();
     match t {
         Token::Identifier(at, n) => {
             Answer::Node(tree::push_name(tree, used, op, at, n), c.take())
         }
-        Token::Integer(v) => Answer::Node(tree::push_number(tree, used, op, v), c.take()),
+        Token::Integer(v) => Answer::Node(tree::push_number(tree, used, op, v as i64), c.take()),
         Token::ParL => {
             if depth < MAX_OPEN {
                 parse_brackets(text, tree, used, op, depth + 1, c.take())
@@ -214,7 +212,7 @@ pub fn parse_brackets(
     let Answer::Node(end, c) = r else {
         return r;
     };
-    let s = see::want(text, c, see::CLOSE);
+    let s = see::want(text, c, kinds::CLOSE);
     let Seen::At(d) = s else {
         return Answer::Refused(see::why(s));
     };

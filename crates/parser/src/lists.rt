@@ -5,6 +5,7 @@ use crate::see;
 use crate::see::Seen;
 use lexer::Cursor;
 use lexer::Token;
+use lexer::kinds;
 ghost use mathlib.Core.Path.{_≡_};
 ghost use Prim.Native.Nat.{_+_, _*_, _≤_};
 ghost use lib.ListN.{length};
@@ -27,7 +28,7 @@ pub fn parse_id(text: &[u8], tree: &mut [u32], used: usize, cur: Cursor) -> Answ
     let Seen::At(c) = s else {
         return Answer::Refused(see::why(s));
     };
-    let t = c.token;
+    let t = c.token();
     let Token::Identifier(at, n) = t else {
         return Answer::Refused(see::TOKEN_MISSING);
     };
@@ -43,11 +44,11 @@ pub fn parse_integer(text: &[u8], tree: &mut [u32], used: usize, cur: Cursor) ->
     let Seen::At(c) = s else {
         return Answer::Refused(see::why(s));
     };
-    let t = c.token;
+    let t = c.token();
     let Token::Integer(v) = t else {
         return Answer::Refused(see::TOKEN_MISSING);
     };
-    Answer::Node(tree::push_number(tree, used, 0, v), c.take())
+    Answer::Node(tree::push_number(tree, used, 0, v as i64), c.take())
 }
 
 // The mark after a list; then the list's node is whole.
@@ -56,7 +57,7 @@ pub fn end_list(
     tree: &mut [u32],
     used: usize,
     kind: u32,
-    close: u8,
+    close: usize,
     count: usize,
     end: usize,
     cur: Cursor,
@@ -79,7 +80,7 @@ pub fn parse_ids(
     tree: &mut [u32],
     used: usize,
     kind: u32,
-    close: u8,
+    close: usize,
     cur: Cursor,
 ) -> Answer
     requires { ⌜ Room (now text) (now tree) used 4 cur ⌝ }
@@ -99,8 +100,7 @@ pub fn parse_ids(
         let Seen::At(f) = s else {
             return Answer::Refused(see::why(s));
         };
-        let t = f.token;
-        if see::mark(t) != see::COMMA {
+        if see::mark(f) != kinds::COMMA {
             return end_list(text, tree, used, kind, close, count, end, f);
         }
         c = f.take();

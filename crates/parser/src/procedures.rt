@@ -11,6 +11,7 @@ use crate::see;
 use crate::see::Seen;
 use crate::statements::parse_body;
 use lexer::Cursor;
+use lexer::kinds;
 ghost use Prim.Native.Nat.{_+_, _*_};
 ghost use Rattle.lexer.specs.Stands.{left};
 ghost use Rattle.tree.specs.Nodes.{procsNode, blockNode};
@@ -24,7 +25,7 @@ pub fn parse_proc_head(text: &[u8], tree: &mut [u32], used: usize, cur: Cursor) 
     requires { ⌜ Room (now text) (now tree) used 0 cur ⌝ }
     ensures { λ r. ⌜ Reads headNodes (now (text .entry)) (now (tree .entry)) used (now (tree .exit)) (λ n. head (now (text .entry)) n) (8 * left cur) 40 0 cur r ⌝ }
 {
-    let s = see::want(text, cur, see::PROCEDURE);
+    let s = see::want(text, cur, kinds::PROCEDURE);
     let Seen::At(c) = s else {
         return Answer::Refused(see::why(s));
     };
@@ -32,7 +33,7 @@ pub fn parse_proc_head(text: &[u8], tree: &mut [u32], used: usize, cur: Cursor) 
     let Answer::Node(named, d) = r else {
         return r;
     };
-    let z = see::want(text, d, see::OPEN);
+    let z = see::want(text, d, kinds::OPEN);
     let Seen::At(e) = z else {
         return Answer::Refused(see::why(z));
     };
@@ -40,7 +41,7 @@ pub fn parse_proc_head(text: &[u8], tree: &mut [u32], used: usize, cur: Cursor) 
     let Answer::Node(end, f) = q else {
         return q;
     };
-    let y = see::want(text, f, see::SEMICOLON);
+    let y = see::want(text, f, kinds::SEMICOLON);
     let Seen::At(g) = y else {
         return Answer::Refused(see::why(y));
     };
@@ -95,8 +96,7 @@ pub fn parse_later(text: &[u8], tree: &mut [u32], used: usize, depth: usize, cur
     let Seen::At(c) = s else {
         return Answer::Refused(see::why(s));
     };
-    let t = c.token;
-    if see::mark(t) == see::SEMICOLON {
+    if see::mark(c) == kinds::SEMICOLON {
         return parse_proc(text, tree, used, depth, c.take());
     }
     Answer::Node(tree::push(tree, used, tree::NO_PROCEDURES, 0, 0, 0), c)
@@ -129,8 +129,7 @@ pub fn parse_inner(text: &[u8], tree: &mut [u32], used: usize, depth: usize, cur
     let Seen::At(c) = s else {
         return Answer::Refused(see::why(s));
     };
-    let t = c.token;
-    if see::mark(t) != see::PROCEDURE {
+    if see::mark(c) != kinds::PROCEDURE {
         return Answer::Node(tree::push(tree, used, tree::NO_PROCEDURES, 0, 0, 0), c);
     }
     let r = parse_proc(text, tree, used, depth, c);
@@ -162,7 +161,7 @@ pub fn parse_program(text: &[u8], tree: &mut [u32], cur: Cursor) -> Answer
     requires { ⌜ Room (now text) (now tree) 0 20 cur ⌝ }
     ensures { λ r. ⌜ Tries (λ b. only (blockNode b)) (now (text .entry)) (now (tree .entry)) 0 (now (tree .exit)) (λ n. program (now (text .entry)) n) (8 * left cur) 0 16 cur r ⌝ }
 {
-    let s = see::want(text, cur, see::PROGRAM);
+    let s = see::want(text, cur, kinds::PROGRAM);
     let Seen::At(c) = s else {
         return Answer::Refused(see::why(s));
     };
@@ -170,7 +169,7 @@ pub fn parse_program(text: &[u8], tree: &mut [u32], cur: Cursor) -> Answer
     let Answer::Node(_, d) = r else {
         return r;
     };
-    let z = see::want(text, d, see::SEMICOLON);
+    let z = see::want(text, d, kinds::SEMICOLON);
     let Seen::At(e) = z else {
         return Answer::Refused(see::why(z));
     };

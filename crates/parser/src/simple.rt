@@ -8,6 +8,7 @@ use crate::nodes::seal;
 use crate::see;
 use crate::see::Seen;
 use lexer::Cursor;
+use lexer::kinds;
 ghost use Prim.Native.Nat.{_+_, _*_, _≤_};
 ghost use lib.ListN.{length};
 ghost use Rattle.lexer.specs.Meaning.{nameAt};
@@ -29,7 +30,7 @@ pub fn parse_assign(
     requires { ⌜ at + len ≤ length (now text) ⌝ }
     ensures { λ r. ⌜ Tries statement (now (text .entry)) (now (tree .entry)) used (now (tree .exit)) (λ n. assigned (now (text .entry)) (nameAt (now (text .entry)) at len) n depth) (8 * left cur + 3) 4 0 cur r ⌝ }
 {
-    let s = see::want(text, cur, see::BECOMES);
+    let s = see::want(text, cur, kinds::BECOMES);
     let Seen::At(c) = s else {
         return Answer::Refused(see::why(s));
     };
@@ -51,7 +52,7 @@ pub fn parse_call(text: &[u8], tree: &mut [u32], used: usize, depth: usize, cur:
     let Answer::Node(end, c) = r else {
         return r;
     };
-    let s = see::want(text, c, see::OPEN);
+    let s = see::want(text, c, kinds::OPEN);
     let Seen::At(d) = s else {
         return Answer::Refused(see::why(s));
     };
@@ -59,8 +60,7 @@ pub fn parse_call(text: &[u8], tree: &mut [u32], used: usize, depth: usize, cur:
     let Seen::At(e) = next else {
         return Answer::Refused(see::why(next));
     };
-    let t = e.token;
-    if see::mark(t) != see::CLOSE {
+    if see::mark(e) != kinds::CLOSE {
         return parse_exps(text, tree, used, tree::CALL, 1, end, depth, e);
     }
     seal(tree, used, tree::CALL, 0, 1, end);
@@ -72,11 +72,11 @@ pub fn parse_read(text: &[u8], tree: &mut [u32], used: usize, depth: usize, cur:
     requires { ⌜ Room (now text) (now tree) used 16 cur ⌝ }
     ensures { λ r. ⌜ Tries statement (now (text .entry)) (now (tree .entry)) used (now (tree .exit)) (λ n. reading (now (text .entry)) n depth) (8 * left cur + 3) 8 0 cur r ⌝ }
 {
-    let s = see::want(text, cur, see::OPEN);
+    let s = see::want(text, cur, kinds::OPEN);
     let Seen::At(c) = s else {
         return Answer::Refused(see::why(s));
     };
-    parse_ids(text, tree, used, tree::READ, see::CLOSE, c)
+    parse_ids(text, tree, used, tree::READ, kinds::CLOSE, c)
 }
 
 // `(` exps `)`, after `write`
@@ -84,7 +84,7 @@ pub fn parse_write(text: &[u8], tree: &mut [u32], used: usize, depth: usize, cur
     requires { ⌜ Room (now text) (now tree) used 16 cur ⌝ }
     ensures { λ r. ⌜ Tries statement (now (text .entry)) (now (tree .entry)) used (now (tree .exit)) (λ n. writing (now (text .entry)) n depth) (8 * left cur + 3) 8 0 cur r ⌝ }
 {
-    let s = see::want(text, cur, see::OPEN);
+    let s = see::want(text, cur, kinds::OPEN);
     let Seen::At(c) = s else {
         return Answer::Refused(see::why(s));
     };

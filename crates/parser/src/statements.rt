@@ -13,6 +13,7 @@ use crate::simple::parse_read;
 use crate::simple::parse_write;
 use lexer::Cursor;
 use lexer::Token;
+use lexer::kinds;
 ghost use Prim.Native.Nat.{_+_, _*_};
 ghost use Rattle.lexer.specs.Stands.{left};
 ghost use Rattle.parser.specs.Grammar.{stmt, bodyOf, stmts};
@@ -37,7 +38,7 @@ pub fn parse_statement(
     let Seen::At(c) = s else {
         return Answer::Refused(see::why(s));
     };
-    let t = c.token;
+    let t = c.token();
     match t {
         Token::Identifier(at, n) => parse_assign(text, tree, used, depth + 1, at, n, c.take()),
         Token::If => parse_if(text, tree, used, depth + 1, c.take()),
@@ -59,7 +60,7 @@ pub fn parse_while(text: &[u8], tree: &mut [u32], used: usize, depth: usize, cur
     let Answer::Node(tested, c) = r else {
         return r;
     };
-    let s = see::want(text, c, see::DO);
+    let s = see::want(text, c, kinds::DO);
     let Seen::At(d) = s else {
         return Answer::Refused(see::why(s));
     };
@@ -81,7 +82,7 @@ pub fn parse_if(text: &[u8], tree: &mut [u32], used: usize, depth: usize, cur: C
     let Answer::Node(tested, c) = r else {
         return r;
     };
-    let s = see::want(text, c, see::THEN);
+    let s = see::want(text, c, kinds::THEN);
     let Seen::At(d) = s else {
         return Answer::Refused(see::why(s));
     };
@@ -119,8 +120,7 @@ pub fn parse_else_part(
     let Seen::At(c) = s else {
         return Answer::Refused(see::why(s));
     };
-    let t = c.token;
-    if see::mark(t) != see::ELSE {
+    if see::mark(c) != kinds::ELSE {
         return Answer::Nothing(c);
     }
     parse_statement(text, tree, used, depth, c.take())
@@ -131,7 +131,7 @@ pub fn parse_body(text: &[u8], tree: &mut [u32], used: usize, depth: usize, cur:
     requires { ⌜ Room (now text) (now tree) used 4 cur ⌝ }
     ensures { λ r. ⌜ Tries body (now (text .entry)) (now (tree .entry)) used (now (tree .exit)) (λ n. bodyOf (now (text .entry)) n depth) (8 * left cur + 1) 8 0 cur r ⌝ }
 {
-    let s = see::want(text, cur, see::BEGIN);
+    let s = see::want(text, cur, kinds::BEGIN);
     let Seen::At(c) = s else {
         return Answer::Refused(see::why(s));
     };
@@ -139,7 +139,7 @@ pub fn parse_body(text: &[u8], tree: &mut [u32], used: usize, depth: usize, cur:
     let Answer::Node(end, d) = r else {
         return r;
     };
-    let z = see::want(text, d, see::END);
+    let z = see::want(text, d, kinds::END);
     let Seen::At(e) = z else {
         return Answer::Refused(see::why(z));
     };
@@ -174,8 +174,7 @@ pub fn parse_statements(
         let Seen::At(f) = s else {
             return Answer::Refused(see::why(s));
         };
-        let t = f.token;
-        if see::mark(t) != see::SEMICOLON {
+        if see::mark(f) != kinds::SEMICOLON {
             seal(tree, used, tree::BODY, 0, count, end);
             return Answer::Node(end, f);
         }
@@ -194,8 +193,7 @@ pub fn read_on(text: &[u8], tree: &mut [u32], used: usize, depth: usize, cur: Cu
         let Seen::At(d) = s else {
             return Answer::Refused(see::why(s));
         };
-        let t = d.token;
-        if see::mark(t) != see::SEMICOLON {
+        if see::mark(d) != kinds::SEMICOLON {
             return Answer::Nothing(d);
         }
         let q = parse_statement(text, tree, used, depth, d.take());
