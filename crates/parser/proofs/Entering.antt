@@ -1,6 +1,6 @@
 -- The entry: bytes below 128, and what each way out of `parse` comes to.
 use mathlib.Core.Path.{_≡_, refl, sym, ap, _∙_}
-use mathlib.Core.Bool.{Bool, true, false}
+use mathlib.Core.Bool.{Bool, true, false, _&&_}
 use mathlib.Core.List.{List, [], _∷_, _++_}
 use mathlib.Core.Option.{Option, none, some}
 use Prim.Native.Nat.{ℕ, suc, _+_, _*_, _≤_, _<_}
@@ -31,16 +31,30 @@ append-nil : (l : List ℕ) → l ++ [] ≡ l
 append-nil [] = refl
 append-nil (x ∷ l) = ap (λ (t : List ℕ). x ∷ t) (append-nil l)
 
--- a scan that has come to i
-module _ (s : List ℕ) (i : ℕ) where
-  pub ascii-more : i < length s → getD s i 0 < 128 → every isAscii (drop i s) ≡ every isAscii (drop (i + 1) s)
-  ascii-more h e = rw (add-one, drop-cons s i 0 h, lt-ltb _ _ e, every)
+both-true : (x : Bool) → x && true ≡ x
+both-true true = refl
+both-true false = refl
 
-  pub ascii-stop : i < length s → 128 ≤ getD s i 0 → every isAscii (drop i s) ≡ false
-  ascii-stop h e = rw (drop-cons s i 0 h, le-ltb _ _ e, every)
+both-false : (x : Bool) → x && false ≡ false
+both-false true = refl
+both-false false = refl
 
-  pub ascii-past : length s ≤ i → true ≡ every isAscii (drop i s)
-  ascii-past h = rw (drop-of-length-le s h)
+-- a scan that has come to i, where x says whether the bytes before it pass
+module _ (s : List ℕ) (i : ℕ) (x : Bool) (scanned : x && every isAscii (drop i s) ≡ every isAscii s) where
+  pub ascii-more : i < length s → getD s i 0 < 128 → x && every isAscii (drop (i + 1) s) ≡ every isAscii s
+  ascii-more h e =
+      let more : every isAscii (drop i s) ≡ every isAscii (drop (i + 1) s) = rw (add-one, drop-cons s i 0 h, lt-ltb _ _ e, every) in
+      ap (λ (y : Bool). x && y) (sym more) ∙ scanned
+
+  pub ascii-other : i < length s → 128 ≤ getD s i 0 → false ≡ every isAscii s
+  ascii-other h e =
+      let other : every isAscii (drop i s) ≡ false = rw (drop-cons s i 0 h, le-ltb _ _ e, every) in
+      sym (ap (λ (y : Bool). x && y) other ∙ both-false x) ∙ scanned
+
+  pub ascii-past : length s ≤ i → x ≡ every isAscii s
+  ascii-past h =
+      let past : every isAscii (drop i s) ≡ true = rw (drop-of-length-le s h) in
+      sym (ap (λ (y : Bool). x && y) past ∙ both-true x) ∙ scanned
 
 -- the room at the start
 pub room-start : (src xs : List ℕ) → length src ≤ maxSource → length xs ≡ treePlaces → Room src xs 0 20 start
