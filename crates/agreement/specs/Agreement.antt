@@ -1,4 +1,4 @@
--- DEMAND 3: tree and code agree. This file says what is promised and nothing else; Proved.antt beside it proves both statements.
+-- DEMAND 3: tree and code agree. This file says what is promised and nothing else; Proved.antt beside it proves the three statements.
 --
 -- Take any text that compile accepts and whose tree holds no procedure, any input, any budget of steps and any room for output. Work the text out on its
 -- tree by the rules of 01, "The walk". Run its code by the rules of 01, "The machine". Both end alike: with the same number, the same bytes written, the
@@ -20,6 +20,11 @@ use Rattle.machine.specs.Machine.{Ended, runOf}
 use Rattle.machine.specs.Outcome.{RunOutcome, runOutcome}
 use Rattle.walk.specs.Walk.{Walked}
 use Rattle.engine.specs.Compile.{numberOf, codeOf, compile, walk}
+use Rattle.machine.specs.Runs.{outcomeOf}
+use Rattle.machine.specs.declared.runs.Ended.{Ended as Answer}
+use Rattle.engine.specs.declared.entries.Compiled.{Compiled}
+use Rattle.engine.specs.Entries.{compiledOf}
+use Rattle.engine.specs.Walking.{walkedOf}
 use Rattle.engine.specs.Outcomes.{Work, workHolds, CompileOutcome, compileOutcome, WalkOutcome, walkOutcome, cut}
 
 -- A walk and a run with the same budget, of a program with v variables, end alike. The walk's place i is the machine's cell 3 + i.
@@ -46,7 +51,7 @@ pub record OutcomesAlike (v : ℕ) (r : RunOutcome) (w : WalkOutcome) : Type 0 w
   pub out : r .out ≡ w .out
   pub variables : (i : ℕ) → i < v → getD (r .cells) (links + i) (pos 0) ≡ getD (w .vars) i (pos 0)
 
--- The second statement, of the entries themselves, whose contracts are the three equations: whatever compile left, if its number is 0, its first `length`
+-- The second statement, of the outcomes that the entries' contracts name: whatever compile left, if its number is 0, its first `length`
 -- code places handed to run, and walk on the same text, with the same input, budget and output room, and with every other room large enough.
 abbrev pub EntriesAgree : Type 0
 EntriesAgree =
@@ -56,3 +61,22 @@ EntriesAgree =
     → (cells : List ℤ) → maxCells ≤ length cells → (ran : RunOutcome) → ran ≡ runOutcome (cut (compiled .length) (compiled .code)) input budget out cells
     → (vars : List ℤ) (room : Work) → maxVariables ≤ length vars → workHolds room ≡ true → (walked : WalkOutcome) → walked ≡ walkOutcome src input budget out vars room
     → OutcomesAlike (length (b .vars)) ran walked
+
+-- What run and walk return is the same in all of its parts, number, output length, lines and steps; and so is the output room, and each variable.
+pub record AnswersAlike (v : ℕ) (r w : Answer) (outRun outWalk : List ℕ) (cells vars : List ℤ) : Type 0 where
+  pub answer : r ≡ w
+  pub out : outRun ≡ outWalk
+  pub variables : (i : ℕ) → i < v → getD cells (links + i) (pos 0) ≡ getD vars i (pos 0)
+
+-- The third statement, of the entries themselves: c, r and w are what compile, run and walk returned, and the lists beside them what they left. All that is known of them
+-- is their contracts, the three equations. Compile's number is 0, run was handed its first `length` code places, and both had the same input, budget and output room.
+abbrev pub AnswersAgree : Type 0
+AnswersAgree =
+    (src : List ℕ) (b : Block) → parse src ≡ tree b → b .procs ≡ noProcs
+    → (code : Code) (work : Work) (c : Compiled) (kinds : List ℤ) (levels : List ℕ) (operands : List ℤ) (left : Work)
+    → compiledOf c kinds levels operands (left .tree) (left .table) (left .draft) ≡ compileOutcome src code work → c .number ≡ done
+    → (input : List ℕ) (budget : ℕ) (out : List ℕ)
+    → (lent cells : List ℤ) (r : Answer) (outRun : List ℕ) → maxCells ≤ length lent → outcomeOf r outRun cells ≡ runOutcome (cut (c .length) (record { kinds = kinds; levels = levels; operands = operands })) input budget out lent
+    → (places vars : List ℤ) (room after : Work) (w : Answer) (outWalk : List ℕ) → maxVariables ≤ length places → workHolds room ≡ true
+    → walkedOf w outWalk vars (after .tree) (after .table) (after .draft) ≡ walkOutcome src input budget out places room
+    → AnswersAlike (length (b .vars)) r w outRun outWalk cells vars

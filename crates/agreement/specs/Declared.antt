@@ -3,18 +3,16 @@ use mathlib.Core.Path.{_≡_, refl, ap, _∙_}
 use mathlib.Core.Bool.{Bool, true, false, _&&_}
 use mathlib.Core.List.{List, [], _∷_, _++_}
 use mathlib.Core.Option.{Option, none, some}
-use Prim.Native.Nat.{ℕ, suc, _+_, _<_, _≤_}
+use Prim.Native.Nat.{ℕ, suc, _+_, _≤_}
 use native.Mathlib.Omega.{arith}
-use lib.Dec.{ltb}
 use lib.ListN.{length, length-append}
-use borrow.Author.Tests.{ltb-true}
-use Rattle.numbers.specs.Panel.{nameTaken, tooManyRows}
 use Rattle.numbers.specs.Limits.{maxRows}
 use Rattle.numbers.specs.Stack.{links}
 use Rattle.numbers.specs.Bytes.{eqList}
 use Rattle.lexer.specs.Tokens.{Name}
 use Rattle.tree.specs.Tree.{Const}
-use Rattle.symbols.specs.Symbols.{rows, Row, find, findIn, declared, allIn, Rows, refuseRows, andRows, oneMore, fresh, constRows, varRows, mainScope}
+use Rattle.symbols.specs.Symbols.{rows, Row, find, findIn, allIn, constRows, varRows, mainScope}
+use Rattle.walk.specs.Declaring.{and-rows, fresh-row}
 use Rattle.agreement.specs.Exprs.{SoundBy, SoundFound}
 
 abbrev pub Sound : ℕ → Row → Type 0
@@ -41,19 +39,6 @@ find-sound n (r ∷ rs) w sc best h s = go (eqList (r .name) w && allIn (r .scop
 pub sound-rows : (n : ℕ) (rs : List Row) → Each n rs → (w : List ℕ) → SoundFound n (find rs w mainScope)
 unfolding find
 sound-rows n rs h w = find-sound n rs w mainScope none h tt
-
-and-rows : (x : Rows) {out : List Row} (k : List Row → Rows) → andRows x k ≡ rows out → (rs : List Row) × (x ≡ rows rs) × (k rs ≡ rows out)
-and-rows (rows rs) k e = (rs, refl, e)
-and-rows (refuseRows n) k e = absurd (let z : _≡_ {A = ℕ} 0 1 = cc in omega arith)
-
-fresh-row : (rs : List Row) (r : Row) (out : List Row) → fresh rs r ≡ rows out → (out ≡ rs ++ (r ∷ [])) × (length rs < maxRows)
-unfolding fresh oneMore
-fresh-row rs r out e = go (declared rs (r .name) (r .scope)) (ltb (length rs) maxRows) refl e
-  where
-    go : (x y : Bool) → ltb (length rs) maxRows ≡ y → elim x as (λ z. Rows) [ true ↦ refuseRows nameTaken | false ↦ elim y as (λ z. Rows) [ true ↦ rows (rs ++ (r ∷ [])) | false ↦ refuseRows tooManyRows ] ] ≡ rows out → (out ≡ rs ++ (r ∷ [])) × (length rs < maxRows)
-    go true y l e = absurd (let z : _≡_ {A = ℕ} 0 1 = cc in omega arith)
-    go false true l e = ((cc), ltb-true _ _ l)
-    go false false l e = absurd (let z : _≡_ {A = ℕ} 0 1 = cc in omega arith)
 
 pub const-rows : (n : ℕ) (cs : List Const) (rs out : List Row) → constRows rs 0 links mainScope cs ≡ rows out → Each n rs → length rs ≤ maxRows → Each n out × (length out ≤ maxRows)
 unfolding constRows

@@ -16,11 +16,12 @@ use Rattle.numbers.specs.Stack.{links}
 use Rattle.tree.specs.Tree.{Stmts, noProcs, Block}
 use Rattle.pcode.specs.Operators.{return}
 use Rattle.pcode.specs.Code.{opr, INT, JMP, Instr, ins}
-use Rattle.translator.specs.Pieces.{emitOper, Out, made, refuse, _⨾_, emit}
-use Rattle.symbols.specs.Symbols.{rows, Row, find, Rows, refuseRows, constRows, varRows, mainScope}
-use Rattle.translator.specs.Translate.{Done, finished, withRows, withCode, procsCode, blockCode, stmtsCode}
+use Rattle.translator.specs.Pieces.{emitOper, made, _⨾_, emit}
+use Rattle.symbols.specs.Symbols.{rows, Row, find, constRows, varRows, mainScope}
+use Rattle.translator.specs.Translate.{finished, procsCode, blockCode, stmtsCode}
 use Rattle.machine.specs.Machine.{Step, next, halt, stop, Ended, ended, run, step, perform, operate, from, cellAt, goto, with}
 use Rattle.walk.specs.Walk.{State, Result, Walk, then, tick, atTop, walkMain, Walked, walked, declaredRows}
+use Rattle.engine.specs.Accepted.{with-rows, with-code}
 use Rattle.agreement.specs.Declared.{const-rows, var-rows, sound-rows}
 use Rattle.agreement.specs.Exprs.{SoundFound, main}
 use Rattle.agreement.specs.InStep.{at, frame, Rel, Sim, came, stopped, makes}
@@ -94,14 +95,6 @@ module _ (code : List Instr) (room v : ℕ) where
     where
       opening : (w : State) (cs : List ℤ) → Entered w cs → Rel v (atTop (links + v) w) cs
       opening w cs en = let l : links + v ≤ links + v = omega arith in record { size = en .size; low = en .low; over = l }
-
-pub with-rows : (x : Rows) (k : List Row → Done) {c : List Instr} {rs : List Row} {a : ℕ} → withRows x k ≡ finished c rs a → (r : List Row) × (x ≡ rows r) × (k r ≡ finished c rs a)
-with-rows (rows r) k e = (r, refl, e)
-with-rows (refuseRows n) k e = absurd (let z : _≡_ {A = ℕ} 0 1 = cc in omega arith)
-
-pub with-code : (x : Out) (k : List Instr → Done) {c : List Instr} {rs : List Row} {a : ℕ} → withCode x k ≡ finished c rs a → (d : List Instr) × (x ≡ made d) × (k d ≡ finished c rs a)
-with-code (made d) k e = (d, refl, e)
-with-code (refuse n) k e = absurd (let z : _≡_ {A = ℕ} 0 1 = cc in omega arith)
 
 -- what stands behind an accepted main block without procedures
 pub record Standing (b : Block) (c : List Instr) : Type 0 where

@@ -17,29 +17,21 @@ use Rattle.tree.specs.Layout.{enc, Stands}
 use Rattle.tree.specs.Nodes.{blockNode}
 use Rattle.parser.specs.Grammar.{Parsed, tree, parse}
 use Rattle.pcode.specs.Code.{Instr}
-use Rattle.symbols.specs.Symbols.{mainScope, Row, Rows, rows, refuseRows, constRows, varRows}
+use Rattle.symbols.specs.Symbols.{mainScope, Row, rows, constRows, varRows}
 use Rattle.translator.specs.declared.Translated.{Translated}
 use Rattle.translator.specs.declared.Translated.the-variants.{Length, Refused}
-use Rattle.translator.specs.Pieces.{Out, made, refuse}
-use Rattle.translator.specs.Translate.{Done, finished, withRows, withCode, bodyCode, procsCode, blockCode}
+use Rattle.translator.specs.Pieces.{made}
+use Rattle.translator.specs.Translate.{finished, bodyCode, procsCode, blockCode}
 use Rattle.machine.specs.declared.runs.Ended.{Ended}
 use Rattle.walk.specs.declared.progress.Outcome.{Outcome}
 use Rattle.walk.specs.Walk.{Walked, begin, walkBlock}
 use Rattle.walk.specs.Trees.{anyProcs, TreeAt, Walks, finished as walked, halted}
 use Rattle.engine.specs.Compile.{Compiled, compile, unwalked, walkUnless, walkAfter, walkParsed, walk}
 use Rattle.engine.specs.Outcomes.{Work, workHolds, WalkOutcome, walkLeaves, walkOutcome}
-use Rattle.engine.specs.Accepted.{tree-read, accepts}
+use Rattle.engine.specs.Accepted.{tree-read, accepts, with-rows, with-code}
 use Rattle.engine.specs.Entries.{Ready, Drafting, ready, refusal}
 use Rattle.engine.specs.Walking.{refusedWith, endedOf, leftIn, Leaves, walkedOf}
 use Rattle.engine.proofs.Compiling.{Wiped, wiped}
-
-pub with-rows : (x : Rows) (k : List Row → Done) {c : List Instr} {rs : List Row} {a : ℕ} → withRows x k ≡ finished c rs a → (r : List Row) × (x ≡ rows r) × (k r ≡ finished c rs a)
-with-rows (rows r) k e = (r, refl, e)
-with-rows (refuseRows n) k e = absurd (let z : _≡_ {A = ℕ} 0 1 = cc in omega arith)
-
-pub with-code : (x : Out) (k : List Instr → Done) {c : List Instr} {rs : List Row} {a : ℕ} → withCode x k ≡ finished c rs a → (d : List Instr) × (x ≡ made d) × (k d ≡ finished c rs a)
-with-code (made d) k e = (d, refl, e)
-with-code (refuse n) k e = absurd (let z : _≡_ {A = ℕ} 0 1 = cc in omega arith)
 
 -- the rows of a block without procedures are those of its constants and its variables
 declared : (b : Block) (c : List Instr) (rs : List Row) (a : ℕ) → b .procs ≡ noProcs → blockCode b ≡ finished c rs a → (r : List Row) × (constRows [] 0 links mainScope (b .consts) ≡ rows r) × (varRows r 0 links mainScope (b .vars) ≡ rows rs)

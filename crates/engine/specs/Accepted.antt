@@ -17,9 +17,10 @@ use Rattle.parser.specs.Entry.{reading}
 use Rattle.parser.specs.Depth.{parse-nests}
 use Rattle.parser.specs.Names.{parse-named}
 use Rattle.pcode.specs.Code.{Instr}
-use Rattle.symbols.specs.Symbols.{Row}
+use Rattle.symbols.specs.Symbols.{Row, Rows, rows, refuseRows}
 use Rattle.translator.specs.Shape.{Shape, block-shape}
-use Rattle.translator.specs.Translate.{Done, finished, failed, blockCode}
+use Rattle.translator.specs.Pieces.{Out, made, refuse}
+use Rattle.translator.specs.Translate.{Done, finished, failed, withRows, withCode, blockCode}
 use Rattle.engine.specs.Compile.{accepted, notAccepted, translated, fromTree, compile}
 
 -- the tree behind accepted code, and its rows
@@ -65,6 +66,15 @@ unread src n e = ap fromTree e
 pub untranslated : (src : List ℕ) (b : Block) (n : ℕ) → reading src ≡ tree b → blockCode b ≡ failed n → compile src ≡ notAccepted n
 unfolding compile fromTree translated
 untranslated src b n e f = ap fromTree e ∙ ap translated f
+
+-- what stands behind rows that were declared, and behind code that was made
+pub with-rows : (x : Rows) (k : List Row → Done) {c : List Instr} {rs : List Row} {a : ℕ} → withRows x k ≡ finished c rs a → (r : List Row) × (x ≡ rows r) × (k r ≡ finished c rs a)
+with-rows (rows r) k e = (r, refl, e)
+with-rows (refuseRows n) k e = absurd (let z : _≡_ {A = ℕ} 0 1 = cc in omega arith)
+
+pub with-code : (x : Out) (k : List Instr → Done) {c : List Instr} {rs : List Row} {a : ℕ} → withCode x k ≡ finished c rs a → (d : List Instr) × (x ≡ made d) × (k d ≡ finished c rs a)
+with-code (made d) k e = (d, refl, e)
+with-code (refuse n) k e = absurd (let z : _≡_ {A = ℕ} 0 1 = cc in omega arith)
 
 -- the shape of every accepted program's code
 pub accepted-shape : (src : List ℕ) (c : List Instr) → compile src ≡ accepted c → Shape maxOpen c

@@ -47,6 +47,9 @@ fn answer_case(line: &[u8], answer: &mut [u8]) -> usize
     if is_same(part(line, b' ', 1), b"compile") {
         return crate::compile::answer_compile(line, answer);
     }
+    if is_same(part(line, b' ', 1), b"walk") {
+        return crate::walks::answer_walk(line, answer);
+    }
     unknown(line, answer)
 }
 

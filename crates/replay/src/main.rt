@@ -3,6 +3,7 @@
 mod compile;
 mod lines;
 mod run;
+mod walks;
 
 ghost use mathlib.Core.Path.{_≡_};
 ghost use lib.ListN.{length};

@@ -34,7 +34,7 @@ const BLANK: u8 = b' ';
 const WORDS: usize = 6;
 
 // NUMBER OUTLEN LINES STEPS
-fn put_ended(answer: &mut [u8], at: usize, e: Ended) -> usize
+pub fn put_ended(answer: &mut [u8], at: usize, e: Ended) -> usize
     requires { ⌜ at ≤ length (now answer) ⌝ }
     ensures { λ r. ⌜ r ≤ length (now (answer .entry)) ⌝ }
 {
@@ -45,7 +45,7 @@ fn put_ended(answer: &mut [u8], at: usize, e: Ended) -> usize
 }
 
 // OUTPUT CELLS
-fn put_lists(answer: &mut [u8], at: usize, out: &[u8], cells: &[i64]) -> usize
+pub fn put_lists(answer: &mut [u8], at: usize, out: &[u8], cells: &[i64]) -> usize
     requires { ⌜ at ≤ length (now answer) ⌝ }
     ensures { λ r. ⌜ r ≤ length (now (answer .entry)) ⌝ }
 {

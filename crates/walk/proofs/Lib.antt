@@ -13,5 +13,4 @@ pub mod Listed
 pub mod Testing
 pub mod Flow
 pub mod Bodies
-pub mod Declaring
 pub mod Whole

@@ -33,7 +33,7 @@ use Rattle.walk.specs.Trees.{anyProcs, startOf, openWalk, TreeAt, Walks,
 use Rattle.walk.proofs.Steps.{at-top}
 use Rattle.walk.proofs.Exps.{then-assoc}
 use Rattle.walk.proofs.Ends.{ends-halt, ends-then}
-use Rattle.walk.proofs.Declaring.{Small, consts-small, vars-small, small-rows}
+use Rattle.walk.specs.Declaring.{Small, consts-small, vars-small, small-rows}
 
 -- the parts of the block, each after the one before
 module _ {tr : List ℕ} (b : Block) (st : Stands tr 0 (enc (blockNode b))) where

@@ -48,13 +48,13 @@ draft-text-requires c κs = all-long 98400 (length (c .before .before .before .b
 
 -- src/walks.rt:116:9
 walk-drafted-requires : tie.Need-walk-drafted-requires
-walk-drafted-requires c κs = 
+walk-drafted-requires c κs =
     let (a, (b, d)) = all-long 98400 (length (c .before .before .before .before .before .before .before .before .before .before .before .before .before .before .before .before .before .before .before .before .before .before .before .before .before .before .args .tree .now)) 6144 (length (c .before .before .before .before .before .before .before .before .before .before .before .before .before .before .before .before .before .before .before .before .before .before .before .before .before .before .args .table .now)) 16384 (length (c .before .before .before .before .before .before .before .before .before .before .before .before .before .before .before .before .before .before .before .before .before .before .before .before .before .before .args .draft .now)) (sym (c .before .before .before .before .before .before .before .before .before .before .before .before .before .before .before .before .before .before .holds-work .ensures) ∙ not-false _ (c .before .before .before .before .before .before .before .before .before .before .before .before .before .before .before .before .before .if2 .left)) in
     ((_, c .before .before .before .before .before .before .before .before .before .before .draft-text .ensures .0), (omega (arith, b, c .before .before .before .before .before .before .before .before .before .before .draft-text .kept .1 .1 .0), zeros-stay (c .before .before .before .before .before .before .before .before .before .before .before .before .before .before .before .before .before .before .before .before .before .before .before .before .before .before .args .vars .now) (c .before .before .before .before .before .before .before .before .before .before .before .before .before .before .before .clear-variables .ensures)))
 
 -- src/walks.rt:117:5
 wipe-requires : tie.Need-wipe-requires
-wipe-requires c κs = 
+wipe-requires c κs =
     let (a, (b, d)) = all-long 98400 (length (c .before .before .before .before .before .before .before .before .before .before .before .before .before .before .before .before .before .before .before .before .before .before .before .before .before .before .before .before .before .before .before .before .before .args .tree .now)) 6144 (length (c .before .before .before .before .before .before .before .before .before .before .before .before .before .before .before .before .before .before .before .before .before .before .before .before .before .before .before .before .before .before .before .before .before .args .table .now)) 16384 (length (c .before .before .before .before .before .before .before .before .before .before .before .before .before .before .before .before .before .before .before .before .before .before .before .before .before .before .before .before .before .before .before .before .before .args .draft .now)) (sym (c .before .before .before .before .before .before .before .before .before .before .before .before .before .before .before .before .before .before .before .before .before .before .before .before .before .holds-work .ensures) ∙ not-false _ (c .before .before .before .before .before .before .before .before .before .before .before .before .before .before .before .before .before .before .before .before .before .before .before .before .if2 .left)) in
     (omega (arith, a, c .before .before .before .before .before .before .before .before .before .before .before .before .before .before .before .before .before .draft-text .kept .1 .0), (omega (arith, b, c .before .before .before .before .before .before .before .before .before .before .before .before .before .before .before .before .before .draft-text .kept .1 .1 .0), omega (arith, d, c .before .before .before .before .before .before .before .before .before .before .before .before .before .before .before .before .before .draft-text .kept .1 .1 .1 .0)))
 
@@ -80,7 +80,7 @@ same-length-5 c = search needs
 
 -- src/walks.rt:96:1
 returns-3 : tie.Need-returns-3
-returns-3 c = 
+returns-3 c =
     roomy-walk _ _ _ _ _ _ (c .before .before .before .before .before .before .before .before .before .before .before .before .before .before .before .before .before .before .before .before .before .before .before .before .before .before .before .before .before .before .before .before .before .if1 .left) (sym (c .before .before .before .before .before .before .before .before .before .before .before .before .before .before .before .before .before .before .before .before .before .before .before .before .before .before .before .before .before .before .before .before .holds-work .ensures) ∙ not-false _ (c .before .before .before .before .before .before .before .before .before .before .before .before .before .before .before .before .before .before .before .before .before .before .before .before .before .before .before .before .before .before .before .if2 .left))
     (all-left _ _ _ _ _ (c .before .before .before .before .before .before .before .before .before .before .before .before .before .before .before .before .before .before .before .before .before .before .before .before .draft-text .last .1 .0) (c .before .before .before .before .before .before .before .before .before .before .before .before .before .before .before .before .before .before .before .before .before .before .before .before .draft-text .last .1 .1 .0) (c .before .before .before .before .before .before .before .before .before .before .before .before .before .before .before .before .before .before .before .before .before .before .before .before .draft-text .last .1 .1 .1 .0) (c .before .before .before .before .before .before .before .before .before .before .before .before .before .before .before .before .before .before .before .before .before .before .before .before .before .before .before .before .before .clear-variables .ensures) (c .before .before .before .before .before .before .before .before .before .before .before .before .before .walk-drafted .ensures)
     (record { beyond = c .before .before .before .before .before .before .before .before .before .before .before .before .before .before .before .before .before .before .before .before .before .before .before .before .draft-text .ensures .1 .0; zeros = c .before .before .before .before .before .before .wipe .ensures .0 }) (record { beyond = c .before .before .before .before .before .before .before .before .before .before .before .before .before .before .before .before .before .before .before .before .before .before .before .before .draft-text .ensures .1 .1 .0; zeros = c .before .before .before .before .before .before .wipe .ensures .1 .0 }) (record { beyond = c .before .before .before .before .before .before .before .before .before .before .before .before .before .before .before .before .before .before .before .before .before .before .before .before .draft-text .ensures .1 .1 .1; zeros = c .before .before .before .before .before .before .wipe .ensures .1 .1 }))
