@@ -9,9 +9,9 @@ use Rattle.numbers.specs.Limits.{maxRows}
 use Rattle.numbers.specs.Stack.{links}
 use Rattle.tree.specs.Tree.{Exp, lit, ref, neg, chain, brackets, Chain, end, link, Cond, isOdd, rel}
 use Rattle.pcode.specs.Code.{Op, LOD, Instr, ins}
-use Rattle.translator.specs.Pieces.{Piece}
+use Rattle.emission.specs.Pieces.{Piece}
 use Rattle.symbols.specs.Symbols.{Kind, const, var, procedure, Row, find, mainScope}
-use Rattle.translator.specs.Translate.{Env, reach, valueCode, used, expCode, chainCode, condCode}
+use Rattle.emission.specs.Statements.{Env, reach, valueCode, used, expCode, chainCode, condCode}
 use Rattle.machine.specs.Machine.{run}
 use Rattle.walk.specs.Walk.{State, Walk, walkExp, walkChain, walkCond, valueIn, valueBy, push}
 use Rattle.agreement.specs.InStep.{at, Rel, Pushed, Sim, came, bind}

@@ -16,9 +16,10 @@ use Rattle.numbers.specs.Stack.{links}
 use Rattle.tree.specs.Tree.{Stmts, noProcs, Block}
 use Rattle.pcode.specs.Operators.{return}
 use Rattle.pcode.specs.Code.{opr, INT, JMP, Instr, ins}
-use Rattle.translator.specs.Pieces.{emitOper, made, _⨾_, emit}
+use Rattle.emission.specs.Pieces.{emitOper, made, _⨾_, emit}
 use Rattle.symbols.specs.Symbols.{rows, Row, find, constRows, varRows, mainScope}
-use Rattle.translator.specs.Translate.{finished, procsCode, blockCode, stmtsCode}
+use Rattle.emission.specs.Statements.{stmtsCode}
+use Rattle.translator.specs.Translate.{finished, procsCode, blockCode}
 use Rattle.machine.specs.Machine.{Step, next, halt, stop, Ended, ended, run, step, perform, operate, from, cellAt, goto, with}
 use Rattle.walk.specs.Walk.{State, Result, Walk, then, tick, atTop, walkMain, Walked, walked, declaredRows}
 use Rattle.engine.specs.Accepted.{with-rows, with-code}

@@ -17,9 +17,9 @@ use Rattle.lexer.specs.Tokens.{Name}
 use Rattle.tree.specs.Tree.{Exp, Cond, Stmt, assign, ifThen, ifElse, while, call, body, readS, writeS, Stmts, last, more}
 use Rattle.pcode.specs.Operators.{read}
 use Rattle.pcode.specs.Code.{STO, JMP, JPC, Instr, ins}
-use Rattle.translator.specs.Pieces.{emitOper, Piece, _⨾_, emit, nothing, jumpOver, refuse, refusing}
+use Rattle.emission.specs.Pieces.{emitOper, Piece, _⨾_, emit, nothing, jumpOver, refuse, refusing}
 use Rattle.symbols.specs.Symbols.{Kind, const, var, procedure, Row, find, mainScope}
-use Rattle.translator.specs.Translate.{reach, storing, ifVar, ifProc, callCode, readsCode, writesCode, stmtCode, stmtsCode, expCode, condCode}
+use Rattle.emission.specs.Statements.{reach, storing, ifVar, ifProc, callCode, readsCode, writesCode, stmtCode, stmtsCode, expCode, condCode}
 use Rattle.machine.specs.Machine.{run}
 use Rattle.walk.specs.Walk.{State, Walk, then, _>>=_, _>>_, pure, step, tick, whether, loop, store, placeIn, walkExp, walkCond, readLine, walkReads, walkWrites, walkStmt, walkStmts}
 use Rattle.agreement.specs.Exprs.{SoundBy, SoundFound, main, Pushes, made-reach, exp-pushes, cond-pushes}

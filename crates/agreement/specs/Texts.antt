@@ -21,10 +21,11 @@ use Rattle.parser.specs.Refusals.{parse-refuses}
 use Rattle.tree.specs.Tree.{Exp, call, noProcs, Block}
 use Rattle.pcode.specs.Operators.{return}
 use Rattle.pcode.specs.Code.{INT, JMP, Instr, ins}
-use Rattle.translator.specs.Pieces.{emitOper, refuse, _⨾_, emit}
+use Rattle.emission.specs.Pieces.{emitOper, refuse, _⨾_, emit}
 use Rattle.translator.specs.Refusals.{DoneNumbered, notDone, block-no}
 use Rattle.symbols.specs.Symbols.{rows, Row, constRows, varRows, mainScope}
-use Rattle.translator.specs.Translate.{Done, finished, failed, blockCode, stmtCode, stmtsCode}
+use Rattle.emission.specs.Statements.{stmtCode, stmtsCode}
+use Rattle.translator.specs.Translate.{Done, finished, failed, blockCode}
 use Rattle.machine.specs.Machine.{Ended, run, runOf, start}
 use Rattle.walk.specs.Walk.{walkMain, Walked, walked, begin, declaredRows, walkBlock}
 use Rattle.engine.specs.Compile.{accepted, notAccepted, numberOf, codeOf, compile, fromTree, translated, walkAfter, walkParsed, walkUnless, walk}

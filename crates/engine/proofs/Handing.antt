@@ -12,7 +12,7 @@ use Rattle.numbers.specs.Limits.{greatest}
 use Rattle.numbers.specs.Lent.{onto}
 use Rattle.tree.specs.Layout.{half}
 use Rattle.pcode.specs.Code.{Op, NIL, LIT, OPR, LOD, STO, STA, CAL, INT, JMP, JPC, RED, WRT, Instr, nil, kindNo}
-use Rattle.translator.specs.Draft.{opNo}
+use Rattle.emission.specs.Draft.{opNo}
 use Rattle.engine.specs.Handing.{Drafts, four-at}
 use Rattle.engine.proofs.Putting.{Put, put-length, put-more, put-all}
 

@@ -19,7 +19,7 @@ use Rattle.parser.specs.Names.{parse-named}
 use Rattle.pcode.specs.Code.{Instr}
 use Rattle.symbols.specs.Symbols.{Row, Rows, rows, refuseRows}
 use Rattle.translator.specs.Shape.{Shape, block-shape}
-use Rattle.translator.specs.Pieces.{Out, made, refuse}
+use Rattle.emission.specs.Pieces.{Out, made, refuse}
 use Rattle.translator.specs.Translate.{Done, finished, failed, withRows, withCode, blockCode}
 use Rattle.engine.specs.Compile.{accepted, notAccepted, translated, fromTree, compile}
 

@@ -8,8 +8,9 @@ use Rattle.parser.specs.Entry.{reading}
 use Rattle.pcode.specs.Operators.{operators, operOf}
 use Rattle.pcode.specs.Code.{kindNo, kinds, kindOf, placeFor, instrIn, codeFor, placesIn, instrsIn}
 use Rattle.symbols.specs.Symbols.{isIn, allIn, sameScope, findIn, find, declared, oneMore, fresh, constRows, varRows, argRows}
-use Rattle.translator.specs.Pieces.{_⨾_, nothing, refusing, emit, jumpOver}
-use Rattle.translator.specs.Translate.{reach, expCode, condCode, argsCode, writesCode, readsCode, stmtCode, stas, procsCode, blockCode}
+use Rattle.emission.specs.Pieces.{_⨾_, nothing, refusing, emit, jumpOver}
+use Rattle.emission.specs.Statements.{reach, expCode, condCode, argsCode, writesCode, readsCode, stmtCode}
+use Rattle.translator.specs.Translate.{stas, procsCode, blockCode}
 use Rattle.machine.specs.Machine.{cellAt, from, up, there, with, goto, put, reading as readingStep, operate, perform, step, run, start, runOf}
 use Rattle.walk.specs.Walk.{push, walkExp, walkCond, store, loop, put as putW, readLine, walkReads, walkWrites, walkStmt, walkMain, walked, begin, declaredRows, walkBlock}
 use Rattle.engine.specs.Compile.{translated, fromTree, compile, walk}

@@ -14,7 +14,7 @@ use Rattle.parser.specs.Entry.{reading}
 use Rattle.translator.specs.declared.Translated.{Translated}
 use Rattle.translator.specs.declared.Translated.the-variants.{Length, Refused}
 use Rattle.translator.specs.Blocks.{BlockAt, Whole}
-use Rattle.translator.specs.Draft.{drafted}
+use Rattle.emission.specs.Draft.{drafted}
 use Rattle.engine.specs.declared.entries.Compiled.{Compiled as Answer}
 use Rattle.engine.specs.Compile.{Compiled, accepted, notAccepted, numberOf, codeOf, compile}
 use Rattle.engine.specs.Outcomes.{CompileOutcome}

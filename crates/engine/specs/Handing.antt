@@ -14,7 +14,7 @@ use Rattle.tree.specs.Layout.{half}
 use Rattle.pcode.specs.Operators.{Oper, operNo, return, negate, arithmetic, odd, idle, comparison, write, newLine, read}
 use Rattle.pcode.specs.Code.{Instr, nil, kindNo}
 use Rattle.translator.specs.Shape.{Within, literal, operator, load, store, argument, calls, raise, jump, test, Each, each-none, each-more, Shape}
-use Rattle.translator.specs.Draft.{opNo, drafted}
+use Rattle.emission.specs.Draft.{opNo, drafted}
 
 -- an instruction that a code place can carry: no NIL, a level below 65,536, an operand within i64 that is not negative
 pub record Placed (i : Instr) : Type 0 where

@@ -1,5 +1,5 @@
 -- Laws of blocks and procedures on the definitions alone: what a procedure becomes, step by step.
-use mathlib.Core.Path.{_≡_, refl, sym, ap, _∙_}
+use mathlib.Core.Path.{_≡_, refl, ap, _∙_}
 use mathlib.Core.Bool.{Bool, true, false}
 use mathlib.Core.List.{List, [], _∷_, _++_}
 use Prim.Native.Nat.{ℕ, suc, _+_, _≤_, _<_}
@@ -11,11 +11,12 @@ use Rattle.numbers.specs.Limits.{maxCode}
 use Rattle.numbers.specs.Panel.{tooManyInstructions}
 use Rattle.numbers.specs.Stack.{links}
 use Rattle.lexer.specs.Tokens.{Name}
-use Rattle.tree.specs.Tree.{Const, Stmts, Procs, noProcs, proc, Block}
+use Rattle.tree.specs.Tree.{Const, Stmts, Procs, proc, Block}
 use Rattle.pcode.specs.Code.{JMP, Instr, ins}
 use Rattle.symbols.specs.Symbols.{Scope, mainScope, Row, Rows, rows, refuseRows, andRows, fresh, procRow, constRows, varRows, argRows}
-use Rattle.translator.specs.Pieces.{Out, made, refuse}
-use Rattle.translator.specs.Translate.{Env, bodyCode, Done, finished, failed, withRows, withDone, withCode, entryAt, procsCode, blockCode}
+use Rattle.emission.specs.Pieces.{Out, made, refuse}
+use Rattle.emission.specs.Statements.{Env}
+use Rattle.translator.specs.Translate.{bodyCode, Done, finished, failed, withRows, withDone, withCode, entryAt, procsCode, blockCode}
 use Rattle.translator.specs.Rows.{headRows}
 use Rattle.translator.specs.Blocks.{insideCode, endCode}
 

@@ -1,28 +1,28 @@
 -- Laws of a block's end: STA for each argument, INT, the body and the return.
-use mathlib.Core.Path.{_≡_, refl, sym, ap, _∙_}
-use mathlib.Core.List.{List, []}
-use Prim.Native.Nat.{ℕ, zero, suc, _+_, _-_, _≤_, _<_}
+use mathlib.Core.Path.{_≡_, sym, ap, _∙_}
+use mathlib.Core.List.{List}
+use Prim.Native.Nat.{ℕ, suc, _+_, _-_, _≤_, _<_}
 use native.Mathlib.Omega.{arith}
 use native.Mathlib.Numerals.{add-one}
 use lib.IntN.{pos}
-use lib.ListN.{length, getD}
+use lib.ListN.{getD}
 use Rattle.numbers.specs.Limits.{maxCode}
 use Rattle.numbers.specs.Stack.{links}
 use Rattle.tree.specs.Tree.{Stmt, body, Stmts}
-use Rattle.tree.specs.Layout.{bodyKind, enc, Stands}
-use Rattle.tree.specs.Nodes.{stmtNode, stmtNodes}
+use Rattle.tree.specs.Nodes.{stmtNode}
 use Rattle.tree.specs.Named.{NamedStmt}
 use Rattle.tree.specs.Heads.{stmt-head}
 use Rattle.pcode.specs.Operators.{return}
 use Rattle.pcode.specs.Code.{STA, INT}
-use Rattle.translator.specs.declared.emission.Made.{Made}
-use Rattle.translator.specs.declared.emission.Made.the-variants.{At}
-use Rattle.translator.specs.Pieces.{Piece, made, _⨾_, nothing, emit, emitOper}
-use Rattle.translator.specs.Translate.{Env, stmtCode, stmtsCode, stas, bodyCode}
-use Rattle.translator.specs.Draft.{Emits}
-use Rattle.translator.specs.Meets.{StmtAt, HasStmt}
+use Rattle.emission.specs.declared.Made.{Made}
+use Rattle.emission.specs.declared.Made.the-variants.{At}
+use Rattle.emission.specs.Pieces.{Piece, _⨾_, nothing, emit, emitOper}
+use Rattle.emission.specs.Statements.{Env, stmtCode, stmtsCode}
+use Rattle.translator.specs.Translate.{stas, bodyCode}
+use Rattle.emission.specs.Draft.{Emits}
+use Rattle.emission.specs.Meets.{StmtAt, HasStmt}
 use Rattle.translator.specs.Blocks.{endCode, BodyAt, HasBody}
-use Rattle.translator.proofs.Drafting.{Sofar, so-start, so-same, so-then, so-stop, so-last, so-done, stop, then, Stops}
+use Rattle.emission.specs.Drafting.{Sofar, so-start, so-same, so-then, so-stop, so-last, so-done, stop, then, Stops}
 
 -- the STA that are left, from i on
 abbrev pub left : ℕ → ℕ → Piece

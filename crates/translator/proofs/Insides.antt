@@ -1,31 +1,31 @@
 -- Laws of what is declared in a block: constants, variables, and then procedures.
 use mathlib.Core.Path.{_≡_, refl, sym, ap, _∙_}
-use mathlib.Core.List.{List, [], _∷_}
-use Prim.Native.Nat.{ℕ, suc, _+_, _≤_, _<_}
+use mathlib.Core.Bool.{true}
+use mathlib.Core.List.{List}
+use Prim.Native.Nat.{ℕ, _+_, _≤_}
 use native.Mathlib.Omega.{arith}
 use lib.ListN.{length, getD}
 use Rattle.numbers.specs.Limits.{rowShare}
 use Rattle.numbers.specs.Stack.{links}
 use Rattle.lexer.specs.Tokens.{Name}
 use Rattle.tree.specs.Tree.{Const, Procs}
-use Rattle.tree.specs.Layout.{Node, Nodes, listKind, member, enc, encs, Stands}
+use Rattle.tree.specs.Layout.{Node, Nodes, listKind, member}
 use Rattle.tree.specs.Nodes.{listNodes, nameNode, constsNode, namesNode, procsNode}
 use Rattle.tree.specs.Reading.{Two, two-at, next-at, branch-at, After}
-use Rattle.symbols.specs.Symbols.{Scope, Row, Rows, rows, refuseRows, constRows, varRows}
+use Rattle.symbols.specs.Symbols.{Scope, Row, Rows, constRows, varRows}
 use Rattle.symbols.specs.Table.{rowsIn, scopeAt, Kept}
 use Rattle.symbols.specs.Chains.{scope-kept}
 use Rattle.symbols.specs.Kept.{rows-length, scoped-kept, kept-on}
-use Rattle.translator.specs.declared.emission.Made.{Made}
-use Rattle.translator.specs.declared.emission.Made.the-variants.{At, Refused}
-use Rattle.translator.specs.declared.declarations.Frame.{Frame}
+use Rattle.emission.specs.declared.Made.{Made}
+use Rattle.emission.specs.declared.Made.the-variants.{At}
 use Rattle.translator.specs.declared.procedures.Place.{Place}
 use Rattle.translator.specs.declared.procedures.Done.{Done as CodeDone}
-use Rattle.translator.specs.Translate.{Done, failed, withRows, procsCode}
+use Rattle.translator.specs.Translate.{Done, withRows, procsCode}
 use Rattle.translator.specs.Rows.{Can, Rowed, Declared, rowed, unrowed, ConstsAt, NamesAt}
-use Rattle.translator.specs.Blocks.{insideCode, refusedOf, Start, Through, Means, through, not, ProcsAt, HasProcs, InsideAt, HasInside}
-use Rattle.translator.proofs.Drafting.{Stops}
-use Rattle.translator.proofs.Rowing.{rowed-at, var-length}
-use Rattle.translator.proofs.Stmts.{list-count}
+use Rattle.translator.specs.Blocks.{insideCode, refusedOf, Start, Means, through, not, ProcsAt, InsideAt, HasInside}
+use Rattle.emission.specs.Drafting.{Stops}
+use Rattle.translator.proofs.Rowing.{rowed-at, names-length}
+use Rattle.emission.specs.Names.{list-count}
 
 -- the same, from an older table
 pub means-on : {o o′ : Done} {s xs zs : List ℕ} {k w : ℕ} {ds : List ℕ} {n : ℕ} {ys es : List ℕ} {r : CodeDone} (c : ℕ) → 9 ≤ c → o′ ≡ o → k ≤ w → Kept c k xs zs → Means o s zs w ds n ys es r → Means o′ s xs k ds n ys es r
@@ -122,7 +122,7 @@ module _ (s tr xs ds : List ℕ) (i : ℕ) (p : Place) (G : Start s xs ds p) {ys
         pub place-low : HasInside s tr i → p .address + getD tr (j + 2) 0 ≤ w + links
         place-low h =
             let a = h .at in
-            omega (arith, G .low, first a .above, vars-size a f, var-length (rowsIn s ys u) (p .level) (p .address) (scopeAt s ys (p .scope)) (h .vars) (rowsIn s zs w) (second a .is), rows-length s ys u, rows-length s zs w)
+            omega (arith, G .low, first a .above, vars-size a f, names-length true (rowsIn s ys u) (p .level) (p .address) (scopeAt s ys (p .scope)) (h .vars) (rowsIn s zs w) (second a .is), rows-length s ys u, rows-length s zs w)
 
         pub place-start : HasInside s tr i → {es : List ℕ} → length es ≡ length ds → Start s zs es (record { scope = p .scope; level = p .level; used = w; address = p .address + getD tr (j + 2) 0; n = p .n })
         place-start h e =

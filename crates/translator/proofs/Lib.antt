@@ -1,10 +1,3 @@
-pub mod Drafting
-pub mod Lookup
-pub mod Lists
-pub mod Exps
-pub mod Jumps
-pub mod Stmts
-pub mod Flow
 pub mod Rowing
 pub mod Blocks
 pub mod Ending

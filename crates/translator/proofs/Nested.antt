@@ -14,35 +14,36 @@ use Rattle.numbers.specs.Panel.{tooManyInstructions}
 use Rattle.numbers.specs.Stack.{links}
 use Rattle.lexer.specs.Tokens.{Name}
 use Rattle.tree.specs.Tree.{Const, Stmts, Procs, noProcs, proc}
-use Rattle.tree.specs.Layout.{Node, Nodes, noProceduresKind, procedureKind, half, noMore, member, enc, Stands}
-use Rattle.tree.specs.Nodes.{nameNode, constsNode, namesNode, procsNode, bodyNode}
+use Rattle.tree.specs.Layout.{Nodes, noProceduresKind, procedureKind, half, noMore, member}
+use Rattle.tree.specs.Nodes.{constsNode, namesNode, procsNode, bodyNode}
 use Rattle.tree.specs.Named.{NamedProcs}
 use Rattle.tree.specs.Reading.{Two, two-at, next-at, After}
 use Rattle.tree.specs.Heads.{nodeHead, ProcsIs, isNone, isProc, procs-is, procs-head}
 use Rattle.pcode.specs.Code.{Op, JMP, Instr, ins}
 use Rattle.symbols.specs.Symbols.{Scope, Row}
-use Rattle.symbols.specs.Table.{rowsIn, scopeAt, Sound, Scoped, Seen, Kept, Became, withValue}
+use Rattle.symbols.specs.Table.{rowsIn, scopeAt, Sound, Seen, Kept, Became, withValue}
 use Rattle.symbols.specs.Chains.{scope-kept}
 use Rattle.symbols.specs.Kept.{rows-length, scoped-kept, kept-on}
-use Rattle.translator.specs.declared.emission.Made.{Made}
-use Rattle.translator.specs.declared.emission.Made.the-variants.{At, Refused as NotMade}
-use Rattle.translator.specs.declared.expressions.Env.{Env as CodeEnv}
+use Rattle.emission.specs.declared.Made.{Made}
+use Rattle.emission.specs.declared.Made.the-variants.{At, Refused as NotMade}
+use Rattle.emission.specs.declared.expressions.Env.{Env as CodeEnv}
 use Rattle.translator.specs.declared.declarations.Frame.{Frame}
 use Rattle.translator.specs.declared.procedures.Place.{Place}
 use Rattle.translator.specs.declared.procedures.Done.{Done as CodeDone}
 use Rattle.translator.specs.declared.procedures.Done.the-variants.{Finished, Refused}
-use Rattle.translator.specs.Pieces.{Out, made, refuse, emit, jumpOver}
-use Rattle.translator.specs.Translate.{Env, Done, finished, failed, withDone, entryAt, procsCode}
-use Rattle.translator.specs.Draft.{drafted, Wrote, Emits, wrote, refused}
-use Rattle.translator.specs.Meets.{hereOf, Known}
-use Rattle.translator.specs.Rows.{Rowed, HeadingAt, HasHeading, headRows, Head, Headed, headed, unheaded}
-use Rattle.translator.specs.Blocks.{insideCode, endCode, refusedOf, Start, Through, Means, through, not, ProcsAt, HasProcs, InsideAt, HasInside, BodyAt, HasBody}
-use Rattle.translator.proofs.Drafting.{Stops, wrote-at, lies-on, append-nil}
-use Rattle.translator.proofs.Jumps.{One, one, jump-made}
-use Rattle.translator.proofs.Stmts.{name-first}
+use Rattle.emission.specs.Pieces.{Out, made, refuse, emit, jumpOver}
+use Rattle.emission.specs.Statements.{Env}
+use Rattle.translator.specs.Translate.{Done, finished, failed, withDone, entryAt, procsCode}
+use Rattle.emission.specs.Draft.{drafted, Wrote, Emits, wrote, refused}
+use Rattle.emission.specs.Meets.{hereOf, Known}
+use Rattle.translator.specs.Rows.{HeadingAt, Head, Headed, headed, unheaded}
+use Rattle.translator.specs.Blocks.{insideCode, endCode, refusedOf, Start, Through, Means, through, not, ProcsAt, HasProcs, InsideAt, BodyAt}
+use Rattle.emission.specs.Drafting.{Stops, wrote-at, lies-on, append-nil}
+use Rattle.emission.specs.Jumps.{One, one, jump-made}
+use Rattle.emission.specs.Names.{name-first}
 use Rattle.translator.proofs.Rowing.{head-numbers}
 use Rattle.translator.proofs.Blocks.{within, so-far, head-refused, no-place, inside-refused, end-refused, end-made}
-use Rattle.translator.proofs.Insides.{rest-at, procs-at, procs-fit, means-on}
+use Rattle.translator.proofs.Insides.{rest-at, procs-at, procs-fit}
 
 pub procs-fits : {s tr : List ℕ} {i : ℕ} {t : Procs} → ProcsAt s tr i t → i + 4 ≤ length tr
 procs-fits {s} {tr} {i} {t} a = procs-head tr i t (a .stands) .fits

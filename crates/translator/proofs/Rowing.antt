@@ -14,25 +14,24 @@ use Rattle.numbers.specs.Bytes.{isLetter}
 use Rattle.numbers.specs.Stack.{links}
 use Rattle.lexer.specs.Tokens.{Name}
 use Rattle.tree.specs.Tree.{Const}
-use Rattle.tree.specs.Layout.{Node, Nodes, constantKind, listKind, procedureKind, half, word, literal, branch, noMore, member, count, size, enc, encs, Stands}
+use Rattle.tree.specs.Layout.{Node, constantKind, listKind, procedureKind, half, literal, noMore, member, count, size, enc, encs, Stands}
 use Rattle.tree.specs.Nodes.{listNodes, nameNode, constNode, namesNode}
 use Rattle.tree.specs.Named.{NameIn, Each, NamedConst}
-use Rattle.tree.specs.Reading.{Two, After, word-at, literal-at, branch-at, two-at}
+use Rattle.tree.specs.Reading.{After, word-at, literal-at, branch-at, two-at}
 use Rattle.symbols.specs.declared.Added.{Added}
 use Rattle.symbols.specs.declared.Added.the-variants.{Used, Refused as NotAdded}
 use Rattle.symbols.specs.declared.Symbol.{Symbol}
-use Rattle.symbols.specs.Symbols.{Kind, const, var, procedure, Row, Rows, rows, refuseRows, Scope, andRows, oneMore, fresh, declared, constRow, varRow, procRow, constRows, varRows, argRows}
+use Rattle.symbols.specs.Symbols.{procedure, Row, Rows, rows, refuseRows, Scope, andRows, oneMore, fresh, declared, constRow, varRow, procRow, constRows, varRows, argRows}
 use Rattle.symbols.specs.Table.{part, kindOf, rowsIn, scopeAt, rowOf, Named, Sound, Scoped, Kept, Grown, Adds, Declares}
 use Rattle.symbols.specs.Chains.{scope-kept}
 use Rattle.symbols.specs.Kept.{rows-length, scoped-kept, scoped-new, kept-on, letter-named}
-use Rattle.translator.specs.declared.emission.Made.{Made}
-use Rattle.translator.specs.declared.emission.Made.the-variants.{At, Refused}
+use Rattle.emission.specs.declared.Made.{Made}
+use Rattle.emission.specs.declared.Made.the-variants.{At, Refused}
 use Rattle.translator.specs.declared.declarations.Frame.{Frame}
-use Rattle.translator.specs.Meets.{NameAt, HasName}
-use Rattle.translator.specs.Rows.{madeOf, Can, Rowed, Declared, rowed, unrowed, variableOf, ConstAt, HasConst, ListAt, HasList, HeadingAt, HasHeading, headRows, Head, Headed, headed, unheaded}
-use Rattle.translator.proofs.Drafting.{Stops}
-use Rattle.translator.proofs.Exps.{name-is}
-use Rattle.translator.proofs.Stmts.{NameFirst, name-first, list-count}
+use Rattle.emission.specs.Meets.{NameAt, HasName}
+use Rattle.translator.specs.Rows.{madeOf, Can, Rowed, Declared, rowed, unrowed, addName, nameRows, variableOf, ConstAt, ListAt, HeadingAt, headRows, Headed, headed, unheaded}
+use Rattle.emission.specs.Drafting.{Stops}
+use Rattle.emission.specs.Names.{name-is, name-first, list-count}
 
 letters : (w : List ℕ) → isLetter (getD w 0 0) ≡ true → 1 ≤ length w
 unfolding isLetter
@@ -88,13 +87,13 @@ const-row {s} {tr} {xs} {ys} {i} {k} {f} {y} {r} rs e h c a =
     let n = const-numbers a in
     rw (← n .text-is, ← n .value) (rw e at h)
 
--- variables and arguments
-pub var-row : {s tr xs ys : List ℕ} {i k : ℕ} {f : Frame} {y : Symbol} {r : Made} (add : Row → Rows)
-    → y ≡ variableOf tr i f → Declared (add (rowOf s xs y)) s xs k ys r → (m : Name) → NameAt s tr i m → Declared (add (varRow m (f .level) (f .address) (scopeAt s xs (f .scope)))) s xs k ys r
+-- a variable or an argument
+pub name-row : {s tr xs ys : List ℕ} {i k : ℕ} {f : Frame} {y : Symbol} {r : Made} (rs : List Row) {b c : Bool}
+    → b ≡ c → y ≡ variableOf tr i f → Declared (addName c rs (rowOf s xs y)) s xs k ys r → (m : Name) → NameAt s tr i m → Declared (addName b rs (varRow m (f .level) (f .address) (scopeAt s xs (f .scope)))) s xs k ys r
 unfolding rowOf kindOf
-var-row {s} {tr} {xs} {ys} {i} {k} {f} {y} {r} add e h m a =
+name-row {s} {tr} {xs} {ys} {i} {k} {f} {y} {r} rs q e h m a =
     let w = word-at tr i 0 (m .at) (length (m .text)) (a .stands) in
-    rw (← name-is {s = s} {n = m} (getD tr (i + 2) 0) (getD tr (i + 3) 0) (w .at2) (w .at3) (a .named)) (rw e at h)
+    rw (q, ← name-is {s = s} {n = m} (getD tr (i + 2) 0) (getD tr (i + 3) 0) (w .at2) (w .at3) (a .named)) (rw e at h)
 
 pub var-declares : {s tr xs : List ℕ} {i k : ℕ} {f : Frame} {y : Symbol} → y ≡ variableOf tr i f → Can s xs k f → HasName s tr i → Declares s xs k y
 var-declares {s} {tr} {xs} {i} {k} {f} {y} e g h =
@@ -119,26 +118,20 @@ and-same (refuseRows e) f g h = refl
 abbrev pub addConst : ℕ → Scope → List Row → ℕ → Const → Rows
 addConst l sc rs a c = fresh rs (constRow c l a sc)
 
-abbrev pub addVar : ℕ → Scope → List Row → ℕ → Name → Rows
-addVar l sc rs a m = fresh rs (varRow m l a sc)
-
-abbrev pub addArg : ℕ → Scope → List Row → ℕ → Name → Rows
-addArg l sc rs a m = oneMore rs (varRow m l a sc)
+abbrev pub addVar : Bool → ℕ → Scope → List Row → ℕ → Name → Rows
+addVar b l sc rs a m = addName b rs (varRow m l a sc)
 
 pub const-each : (rs : List Row) (l a : ℕ) (sc : Scope) (cs : List Const) → constRows rs l a sc cs ≡ eachRows (addConst l sc) (λ x. x) rs a cs
 unfolding constRows eachRows
 const-each rs l a sc [] = refl
 const-each rs l a sc (c ∷ cs) = and-same (fresh rs (constRow c l a sc)) _ _ λ r. const-each r l a sc cs
 
-pub var-each : (rs : List Row) (l a : ℕ) (sc : Scope) (ns : List Name) → varRows rs l a sc ns ≡ eachRows (addVar l sc) (λ x. x + 1) rs a ns
-unfolding varRows eachRows
-var-each rs l a sc [] = refl
-var-each rs l a sc (n ∷ ns) = and-same (fresh rs (varRow n l a sc)) _ _ λ r. ap (λ (x : ℕ). varRows r l x sc ns) (sym (add-one a)) ∙ var-each r l (a + 1) sc ns
-
-pub arg-each : (rs : List Row) (l a : ℕ) (sc : Scope) (ns : List Name) → argRows rs l a sc ns ≡ eachRows (addArg l sc) (λ x. x + 1) rs a ns
-unfolding argRows eachRows
-arg-each rs l a sc [] = refl
-arg-each rs l a sc (n ∷ ns) = and-same (oneMore rs (varRow n l a sc)) _ _ λ r. ap (λ (x : ℕ). argRows r l x sc ns) (sym (add-one a)) ∙ arg-each r l (a + 1) sc ns
+pub names-each : (b : Bool) (rs : List Row) (l a : ℕ) (sc : Scope) (ns : List Name) → nameRows b rs l a sc ns ≡ eachRows (addVar b l sc) (λ x. x + 1) rs a ns
+unfolding varRows argRows eachRows
+names-each true rs l a sc [] = refl
+names-each false rs l a sc [] = refl
+names-each true rs l a sc (n ∷ ns) = and-same (fresh rs (varRow n l a sc)) _ _ λ r. ap (λ (x : ℕ). varRows r l x sc ns) (sym (add-one a)) ∙ names-each true r l (a + 1) sc ns
+names-each false rs l a sc (n ∷ ns) = and-same (oneMore rs (varRow n l a sc)) _ _ λ r. ap (λ (x : ℕ). argRows r l x sc ns) (sym (add-one a)) ∙ names-each false r l (a + 1) sc ns
 
 -- the table xs of k rows has grown to ys of m rows, and the scope p is what it was
 pub record Grows (s xs : List ℕ) (k p : ℕ) (ys : List ℕ) (m : ℕ) : Type 0 where
@@ -267,11 +260,12 @@ fresh-length q r t e = of (declared q (r .name) (r .scope)) e
     of true e = let z : _≡_ {A = ℕ} 0 1 = cc in absurd (omega arith)
     of false e = more-length q r t e
 
-pub fresh-one : {s ys zs : List ℕ} {u m : ℕ} (r : Row) → Rowed (fresh (rowsIn s ys u) r) s ys u zs m → m ≡ u + 1
-fresh-one {s} {ys} {zs} {u} {m} r w = omega (arith, fresh-length (rowsIn s ys u) r (rowsIn s zs m) (w .is), rows-length s ys u, rows-length s zs m)
+name-length : (b : Bool) (q : List Row) (r : Row) (t : List Row) → addName b q r ≡ rows t → length t ≡ length q + 1
+name-length true q r t e = fresh-length q r t e
+name-length false q r t e = more-length q r t e
 
-pub more-one : {s ys zs : List ℕ} {u m : ℕ} (r : Row) → Rowed (oneMore (rowsIn s ys u) r) s ys u zs m → m ≡ u + 1
-more-one {s} {ys} {zs} {u} {m} r w = omega (arith, more-length (rowsIn s ys u) r (rowsIn s zs m) (w .is), rows-length s ys u, rows-length s zs m)
+pub name-one : {s ys zs : List ℕ} {u m : ℕ} (b : Bool) (r : Row) → Rowed (addName b (rowsIn s ys u) r) s ys u zs m → m ≡ u + 1
+name-one {s} {ys} {zs} {u} {m} b r w = omega (arith, name-length b (rowsIn s ys u) r (rowsIn s zs m) (w .is), rows-length s ys u, rows-length s zs m)
 
 -- what was declared first, where all was
 pub and-inv : (x : Rows) (f : List Row → Rows) (t : List Row) → andRows x f ≡ rows t → (q : List Row) × (x ≡ rows q) × (f q ≡ rows t)
@@ -286,11 +280,8 @@ each-length add step h q a (x ∷ l) t e =
     let w = and-inv (add q a x) (λ r. eachRows add step r (step a) l) t e in
     omega (arith, h q a x (w .0) (w .1), each-length add step h (w .0) (step a) l t (w .2))
 
-pub var-length : (q : List Row) (l a : ℕ) (sc : Scope) (ns : List Name) (t : List Row) → varRows q l a sc ns ≡ rows t → length t ≡ length q + length ns
-var-length q l a sc ns t e = each-length (addVar l sc) (λ x. x + 1) (λ q a x t h. fresh-length q (varRow x l a sc) t h) q a ns t (sym (var-each q l a sc ns) ∙ e)
-
-pub arg-length : (q : List Row) (l a : ℕ) (sc : Scope) (ns : List Name) (t : List Row) → argRows q l a sc ns ≡ rows t → length t ≡ length q + length ns
-arg-length q l a sc ns t e = each-length (addArg l sc) (λ x. x + 1) (λ q a x t h. more-length q (varRow x l a sc) t h) q a ns t (sym (arg-each q l a sc ns) ∙ e)
+pub names-length : (b : Bool) (q : List Row) (l a : ℕ) (sc : Scope) (ns : List Name) (t : List Row) → nameRows b q l a sc ns ≡ rows t → length t ≡ length q + length ns
+names-length b q l a sc ns t e = each-length (addVar b l sc) (λ x. x + 1) (λ q a x t h. name-length b q (varRow x l a sc) t h) q a ns t (sym (names-each b q l a sc ns) ∙ e)
 
 -- a procedure by its numbers
 pub record HeadNumbers (s tr : List ℕ) (i : ℕ) (m : Name) (ar : List Name) : Type 0 where
@@ -368,7 +359,7 @@ module _ (s tr xs ys : List ℕ) (i k : ℕ) (f : Frame) (e : Added) (he : Adds 
               rowed = record { is = first-is ∙ w .is; sound = w .sound; above = omega (arith, w .above); kept = kept-on rowShare k rowShare rowShare u xs ys zs (omega arith) (omega arith) (omega arith) (grown .kept) (w .kept) };
               inner = rw (← e₁) (scoped-kept rowShare u n ys zs u (omega arith) (w .above) (w .kept) (inner-can .scoped));
               inner-is = rw (← e₁) (scope-kept rowShare u s ys zs (omega arith) (grown .sound .linked) (w .kept) u (omega arith) ∙ scope-new);
-              more = omega (arith, arg-length (rowsIn s ys u) (f .level + 1) 3 (scopeAt s ys u) ar (rowsIn s zs n) (w .is), rows-length s ys u, rows-length s zs n);
+              more = omega (arith, names-length false (rowsIn s ys u) (f .level + 1) 3 (scopeAt s ys u) ar (rowsIn s zs n) (w .is), rows-length s ys u, rows-length s zs n);
             })
 
 -- what a member's declaration gives, in the scope that the list started with
@@ -377,10 +368,6 @@ module _ {s tr xs ys zs : List ℕ} {j k p u : ℕ} {r : Made} (l a : ℕ) (g : 
       → (c : Const) → Stands tr j (enc (constNode c)) → NamedConst s c → Declared (addConst l (scopeAt s xs p) (rowsIn s ys u) a c) s ys u zs r
   as-const h c st nm = rw (← g .scope-is) (h c (record { stands = st; named = nm }))
 
-  pub as-var : ((m : Name) → NameAt s tr j m → Declared (fresh (rowsIn s ys u) (varRow m l a (scopeAt s ys p))) s ys u zs r)
-      → (m : Name) → Stands tr j (enc (nameNode m)) → NameIn s m → Declared (addVar l (scopeAt s xs p) (rowsIn s ys u) a m) s ys u zs r
-  as-var h m st nm = rw (← g .scope-is) (h m (record { stands = st; named = nm }))
-
-  pub as-arg : ((m : Name) → NameAt s tr j m → Declared (oneMore (rowsIn s ys u) (varRow m l a (scopeAt s ys p))) s ys u zs r)
-      → (m : Name) → Stands tr j (enc (nameNode m)) → NameIn s m → Declared (addArg l (scopeAt s xs p) (rowsIn s ys u) a m) s ys u zs r
-  as-arg h m st nm = rw (← g .scope-is) (h m (record { stands = st; named = nm }))
+  pub as-name : (b : Bool) → ((m : Name) → NameAt s tr j m → Declared (addName b (rowsIn s ys u) (varRow m l a (scopeAt s ys p))) s ys u zs r)
+      → (m : Name) → Stands tr j (enc (nameNode m)) → NameIn s m → Declared (addVar b l (scopeAt s xs p) (rowsIn s ys u) a m) s ys u zs r
+  as-name b h m st nm = rw (← g .scope-is) (h m (record { stands = st; named = nm }))

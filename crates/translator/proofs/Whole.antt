@@ -1,36 +1,37 @@
 -- Laws of the main block.
 use mathlib.Core.Path.{_≡_, refl, sym, ap, _∙_}
 use mathlib.Core.List.{List, [], _∷_, _++_}
-use Prim.Native.Nat.{ℕ, suc, _+_, _*_, _≤_, _<_}
+use Prim.Native.Nat.{ℕ, _+_, _*_, _≤_}
 use native.Mathlib.Omega.{arith}
 use lib.IntN.{pos}
 use lib.ListN.{length, take, set, length-append}
 use Rattle.numbers.specs.Limits.{maxCode, tablePlaces, draftPlaces, draftShare}
 use Rattle.numbers.specs.Stack.{links}
-use Rattle.tree.specs.Tree.{Procs, Stmts, Block}
-use Rattle.tree.specs.Layout.{Node, Nodes, blockKind, noMore, member, enc, Stands}
+use Rattle.tree.specs.Tree.{Block}
+use Rattle.tree.specs.Layout.{blockKind, noMore, member}
 use Rattle.tree.specs.Nodes.{constsNode, namesNode, procsNode, bodyNode, blockNode}
-use Rattle.tree.specs.Reading.{Two, branch-at, After}
-use Rattle.pcode.specs.Code.{JMP, Instr, ins}
+use Rattle.tree.specs.Reading.{branch-at, After}
+use Rattle.pcode.specs.Code.{JMP, ins}
 use Rattle.symbols.specs.Symbols.{Scope, mainScope, Row}
 use Rattle.symbols.specs.Table.{rowsIn, scopeAt, Sound, Seen, Became}
 use Rattle.symbols.specs.Chains.{scope-main}
 use Rattle.symbols.specs.Kept.{sound-start, scoped-main}
-use Rattle.translator.specs.declared.emission.Made.{Made}
-use Rattle.translator.specs.declared.emission.Made.the-variants.{At}
-use Rattle.translator.specs.declared.expressions.Env.{Env as CodeEnv}
+use Rattle.emission.specs.declared.Made.{Made}
+use Rattle.emission.specs.declared.Made.the-variants.{At}
+use Rattle.emission.specs.declared.expressions.Env.{Env as CodeEnv}
 use Rattle.translator.specs.declared.procedures.Place.{Place}
 use Rattle.translator.specs.declared.procedures.Done.{Done as CodeDone}
 use Rattle.translator.specs.declared.procedures.Done.the-variants.{Finished, Refused}
 use Rattle.translator.specs.declared.Translated.the-variants.{Length, Refused as NotTranslated}
 use Rattle.translator.specs.Result.{Translates, code, refusal}
-use Rattle.translator.specs.Pieces.{Out, made, refuse, emit}
-use Rattle.translator.specs.Translate.{Env, bodyCode, Done, finished, failed, withDone, withCode, blockCode}
-use Rattle.translator.specs.Draft.{drafted, Wrote, Emits, wrote, refused}
-use Rattle.translator.specs.Meets.{hereOf, Known}
-use Rattle.translator.specs.Blocks.{insideCode, refusedOf, Start, Through, Means, through, not, InsideAt, HasInside, BodyAt, HasBody, BlockAt, HasBlock, Whole, Blocked, blocked, unblocked}
-use Rattle.translator.proofs.Drafting.{Stops, wrote-at, lies-on}
-use Rattle.translator.proofs.Jumps.{One, one}
+use Rattle.emission.specs.Pieces.{Out, made, refuse, emit}
+use Rattle.emission.specs.Statements.{Env}
+use Rattle.translator.specs.Translate.{bodyCode, Done, finished, withDone, withCode, blockCode}
+use Rattle.emission.specs.Draft.{drafted, Emits, wrote, refused}
+use Rattle.emission.specs.Meets.{hereOf, Known}
+use Rattle.translator.specs.Blocks.{insideCode, refusedOf, Start, Through, Means, through, not, InsideAt, HasInside, BodyAt, HasBody, BlockAt, HasBlock, Blocked, blocked, unblocked}
+use Rattle.emission.specs.Drafting.{Stops, wrote-at, lies-on}
+use Rattle.emission.specs.Jumps.{One, one}
 use Rattle.translator.proofs.Blocks.{closing, block-is}
 use Rattle.translator.proofs.Insides.{rest-at}
 use Rattle.translator.proofs.Nested.{emit-refused, through-at, jump-lies}

@@ -1,7 +1,7 @@
 -- What blocks and procedures ask and promise: rows and code together.
 use mathlib.Core.Path.{_≡_}
-use mathlib.Core.List.{List, [], _∷_, _++_}
-use Prim.Native.Nat.{ℕ, suc, _+_, _*_, _≤_}
+use mathlib.Core.List.{List, _++_}
+use Prim.Native.Nat.{ℕ, _+_, _*_, _≤_}
 use lib.ListN.{length, take}
 use Rattle.numbers.specs.Limits.{maxCode, draftPlaces, draftShare}
 use Rattle.numbers.specs.Stack.{links}
@@ -13,14 +13,15 @@ use Rattle.tree.specs.Named.{NameIn, Each, NamedConst, NamedStmts, NamedProcs, 
 use Rattle.pcode.specs.Code.{Instr}
 use Rattle.symbols.specs.Symbols.{Scope, Row, constRows, varRows}
 use Rattle.symbols.specs.Table.{rowsIn, Sound, Scoped, Seen, Kept}
-use Rattle.translator.specs.declared.emission.Made.{Made}
-use Rattle.translator.specs.declared.emission.Made.the-variants.{At, Refused as NotMade}
+use Rattle.emission.specs.declared.Made.{Made}
+use Rattle.emission.specs.declared.Made.the-variants.{At, Refused as NotMade}
 use Rattle.translator.specs.declared.procedures.Place.{Place}
 use Rattle.translator.specs.declared.procedures.Done.{Done as CodeDone}
 use Rattle.translator.specs.declared.procedures.Done.the-variants.{Finished, Refused}
-use Rattle.translator.specs.Pieces.{Piece, _⨾_}
-use Rattle.translator.specs.Translate.{Env, stas, bodyCode, Done, finished, failed, withRows, procsCode, blockCode}
-use Rattle.translator.specs.Draft.{drafted}
+use Rattle.emission.specs.Pieces.{Piece, _⨾_}
+use Rattle.emission.specs.Statements.{Env}
+use Rattle.translator.specs.Translate.{stas, bodyCode, Done, finished, failed, withRows, procsCode, blockCode}
+use Rattle.emission.specs.Draft.{drafted}
 
 -- what is declared in a block: constants, variables, procedures
 unfoldable pub insideCode : List Const → List Name → Procs → ℕ → Scope → ℕ → List Row → ℕ → Done

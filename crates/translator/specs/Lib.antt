@@ -1,8 +1,5 @@
-pub mod Pieces
 pub mod Translate
 pub mod Refusals
-pub mod Draft
-pub mod Meets
 pub mod Rows
 pub mod Blocks
 pub mod Result

@@ -12,9 +12,10 @@ use Rattle.numbers.specs.Limits.{maxRows, maxCode}
 use Rattle.lexer.specs.Tokens.{Name}
 use Rattle.tree.specs.Tree.{Exp, lit, ref, neg, chain, brackets, Chain, end, link, Cond, isOdd, rel, Stmt, assign, ifThen, ifElse, while, call, body, readS, writeS, Stmts, last, more, Const, Procs, noProcs, proc, Block}
 use Rattle.pcode.specs.Code.{Op, Instr}
-use Rattle.translator.specs.Pieces.{Out, made, refuse, Piece, onward, before, _⨾_, nothing, emit, refusing, jumpPast, jumpOver}
+use Rattle.emission.specs.Pieces.{Out, made, refuse, Piece, onward, before, _⨾_, nothing, emit, refusing, jumpPast, jumpOver}
 use Rattle.symbols.specs.Symbols.{rows, Kind, const, var, procedure, Row, find, declared, Rows, refuseRows, andRows, oneMore, fresh, constRows, varRows, argRows}
-use Rattle.translator.specs.Translate.{Env, reach, valueCode, used, expCode, chainCode, condCode, argsCode, writesCode, ifVar, ifProc, storing, readsCode, callCode, stmtCode, stmtsCode, stas, Done, finished, failed, withRows, withDone, withCode, procsCode, blockCode}
+use Rattle.emission.specs.Statements.{Env, reach, valueCode, used, expCode, chainCode, condCode, argsCode, writesCode, ifVar, ifProc, storing, readsCode, callCode, stmtCode, stmtsCode}
+use Rattle.translator.specs.Translate.{stas, Done, finished, failed, withRows, withDone, withCode, procsCode, blockCode}
 
 data Numbered : Out → Type 0 where
   isMade : {c : List Instr} → Numbered (made c)

@@ -1,5 +1,6 @@
 -- What declarations ask and promise: the rows that a list becomes, in the table.
 use mathlib.Core.Path.{_≡_}
+use mathlib.Core.Bool.{Bool, true, false}
 use mathlib.Core.List.{List, _∷_}
 use Prim.Native.Nat.{ℕ, suc, _+_, _≤_}
 use lib.ListN.{length, getD}
@@ -13,10 +14,10 @@ use Rattle.tree.specs.Named.{NameIn, Each, NamedConst}
 use Rattle.symbols.specs.declared.Added.{Added}
 use Rattle.symbols.specs.declared.Added.the-variants.{Used, Refused as NotAdded}
 use Rattle.symbols.specs.declared.Symbol.{Symbol}
-use Rattle.symbols.specs.Symbols.{Rows, rows, refuseRows, Scope, Row, andRows, fresh, procRow, argRows}
+use Rattle.symbols.specs.Symbols.{Rows, rows, refuseRows, Scope, Row, andRows, oneMore, fresh, procRow, varRows, argRows}
 use Rattle.symbols.specs.Table.{rowsIn, scopeAt, Sound, Scoped, Kept}
-use Rattle.translator.specs.declared.emission.Made.{Made}
-use Rattle.translator.specs.declared.emission.Made.the-variants.{At, Refused}
+use Rattle.emission.specs.declared.Made.{Made}
+use Rattle.emission.specs.declared.Made.the-variants.{At, Refused}
 use Rattle.translator.specs.declared.declarations.Frame.{Frame}
 
 -- an answer of the table, as an answer of the translator
@@ -41,6 +42,16 @@ pub record Rowed (o : Rows) (s xs : List ℕ) (k : ℕ) (ys : List ℕ) (m : ℕ
 pub data Declared (o : Rows) (s xs : List ℕ) (k : ℕ) (ys : List ℕ) : Made → Type 0 where
   rowed : {m : ℕ} → Rowed o s xs k ys m → Declared o s xs k ys (At m)
   unrowed : {e : ℕ} → o ≡ refuseRows e → Declared o s xs k ys (Refused e)
+
+-- one row more for a variable or an argument: the name of one that is checked must be new in its scope
+abbrev pub addName : Bool → List Row → Row → Rows
+addName true rs r = fresh rs r
+addName false rs r = oneMore rs r
+
+-- variables are checked, arguments not
+abbrev pub nameRows : Bool → List Row → ℕ → ℕ → Scope → List Name → Rows
+nameRows true rs l a sc ns = varRows rs l a sc ns
+nameRows false rs l a sc ns = argRows rs l a sc ns
 
 -- a variable's row by its numbers
 abbrev pub variableOf : List ℕ → ℕ → Frame → Symbol

@@ -1,5 +1,5 @@
 -- What code the translator makes: which instructions, with which levels, and jumps and calls to within the list.
-use mathlib.Core.Path.{_≡_, refl, sym, _∙_}
+use mathlib.Core.Path.{_≡_, refl}
 use mathlib.Core.Bool.{Bool, true, false, _&&_}
 use mathlib.Core.List.{List, [], _∷_, _++_}
 use mathlib.Core.Option.{Option, none, some}
@@ -20,8 +20,9 @@ use Rattle.parser.specs.Depth.{Nest}
 use Rattle.pcode.specs.Operators.{Oper, negate, arithmetic, odd, comparison, write, newLine, read, return}
 use Rattle.pcode.specs.Code.{Op, LIT, LOD, STO, STA, CAL, INT, JMP, JPC, Instr, ins, opr}
 use Rattle.symbols.specs.Symbols.{Kind, const, var, procedure, Scope, mainScope, Row, noRow, findIn, find, allIn, declared, Rows, rows, refuseRows, andRows, oneMore, fresh, constRow, varRow, procRow, constRows, varRows, argRows}
-use Rattle.translator.specs.Pieces.{Out, made, refuse, Piece, before, onward, _⨾_, nothing, refusing, emit, emitOper, jumpPast, jumpOver}
-use Rattle.translator.specs.Translate.{Env, rowFor, reach, valueCode, used, expCode, chainCode, condCode, argsCode, writesCode, ifVar, ifProc, storing, readsCode, callCode, stmtCode, stmtsCode, stas, bodyCode, Done, finished, failed, withRows, withDone, withCode, entryAt, procsCode, blockCode}
+use Rattle.emission.specs.Pieces.{Out, made, refuse, Piece, before, onward, _⨾_, nothing, refusing, emit, emitOper, jumpPast, jumpOver}
+use Rattle.emission.specs.Statements.{Env, rowFor, reach, valueCode, used, expCode, chainCode, condCode, argsCode, writesCode, ifVar, ifProc, storing, readsCode, callCode, stmtCode, stmtsCode}
+use Rattle.translator.specs.Translate.{stas, bodyCode, Done, finished, failed, withRows, withDone, withCode, entryAt, procsCode, blockCode}
 
 -- no address is past this: each takes a row
 abbrev pub furthest : ℕ

@@ -1,5 +1,5 @@
 // Declarations: the rows of constants, variables, and a procedure with its arguments.
-use crate::emission::Made;
+use emission::Made;
 use symbols::Added;
 use symbols::CONSTANT;
 use symbols::PROCEDURE;
@@ -11,10 +11,10 @@ ghost use Rattle.lexer.specs.Tokens.{Name};
 ghost use Prim.Native.Nat.{_+_, _≤_};
 ghost use lib.ListN.{length};
 ghost use Rattle.tree.specs.Tree.{Const};
-ghost use Rattle.symbols.specs.Symbols.{oneMore, fresh, constRow, varRow, constRows, varRows, argRows};
+ghost use Rattle.symbols.specs.Symbols.{fresh, constRow, varRow, constRows};
 ghost use Rattle.symbols.specs.Table.{scopeAt, rowsIn};
-ghost use Rattle.translator.specs.Rows.{madeOf, Can, Declared, ConstAt, HasConst, ConstsAt, HasConsts, NamesAt, HasNames, HeadingAt, HasHeading, Headed, variableOf};
-ghost use Rattle.translator.specs.Meets.{NameAt, HasName};
+ghost use Rattle.translator.specs.Rows.{madeOf, Can, Declared, addName, nameRows, ConstAt, HasConst, ConstsAt, HasConsts, NamesAt, HasNames, HeadingAt, HasHeading, Headed, variableOf};
+ghost use Rattle.emission.specs.Meets.{NameAt, HasName};
 
 // Where declarations go: the scope, the level and the first address.
 pub struct Frame {
@@ -74,23 +74,24 @@ fn variable(tree: &[u32], i: usize, f: Frame) -> Symbol
     }
 }
 
-// The variable at i.
-fn var(tree: &[u32], i: usize, text: &[u8], table: &mut [u32], used: usize, f: Frame) -> Made
+// The variable or argument at i. Where it is checked, its name must be new in its scope.
+fn name_decl(
+    tree: &[u32],
+    i: usize,
+    text: &[u8],
+    table: &mut [u32],
+    used: usize,
+    f: Frame,
+    checked: bool,
+) -> Made
     requires { ⌜ Can (now text) (now table) used f ⌝ }
     requires { ⌜ HasName (now text) (now tree) i ⌝ }
-    ensures { λ r. ⌜ ((m : Name) → NameAt (now (text .entry)) (now (tree .entry)) i m → Declared (fresh (rowsIn (now (text .entry)) (now (table .entry)) used) (varRow m (f .level) (f .address) (scopeAt (now (text .entry)) (now (table .entry)) (f .scope)))) (now (text .entry)) (now (table .entry)) used (now (table .exit)) r) ⌝ }
+    ensures { λ r. ⌜ ((m : Name) → NameAt (now (text .entry)) (now (tree .entry)) i m → Declared (addName checked (rowsIn (now (text .entry)) (now (table .entry)) used) (varRow m (f .level) (f .address) (scopeAt (now (text .entry)) (now (table .entry)) (f .scope)))) (now (text .entry)) (now (table .entry)) used (now (table .exit)) r) ⌝ }
 {
     let y = variable(tree, i, f);
-    made(symbols::enter(text, table, used, y))
-}
-
-// The argument at i.
-fn arg(tree: &[u32], i: usize, text: &[u8], table: &mut [u32], used: usize, f: Frame) -> Made
-    requires { ⌜ Can (now text) (now table) used f ⌝ }
-    requires { ⌜ HasName (now text) (now tree) i ⌝ }
-    ensures { λ r. ⌜ ((m : Name) → NameAt (now (text .entry)) (now (tree .entry)) i m → Declared (oneMore (rowsIn (now (text .entry)) (now (table .entry)) used) (varRow m (f .level) (f .address) (scopeAt (now (text .entry)) (now (table .entry)) (f .scope)))) (now (text .entry)) (now (table .entry)) used (now (table .exit)) r) ⌝ }
-{
-    let y = variable(tree, i, f);
+    if checked {
+        return made(symbols::enter(text, table, used, y));
+    }
     made(symbols::add(text, table, used, y))
 }
 
@@ -123,18 +124,19 @@ pub fn const_decl(
     Made::At(u)
 }
 
-// The variables of the list at i, one address each.
-pub fn var_decl(
+// The variables of the list at i, which are checked, or the arguments, which are not; one address each.
+pub fn names_decl(
     tree: &[u32],
     i: usize,
     text: &[u8],
     table: &mut [u32],
     used: usize,
     f: Frame,
+    checked: bool,
 ) -> Made
     requires { ⌜ Can (now text) (now table) used f ⌝ }
     requires { ⌜ HasNames (now text) (now tree) i ⌝ }
-    ensures { λ r. ⌜ ((l : List Name) → NamesAt (now (text .entry)) (now (tree .entry)) i l → Declared (varRows (rowsIn (now (text .entry)) (now (table .entry)) used) (f .level) (f .address) (scopeAt (now (text .entry)) (now (table .entry)) (f .scope)) l) (now (text .entry)) (now (table .entry)) used (now (table .exit)) r) ⌝ }
+    ensures { λ r. ⌜ ((l : List Name) → NamesAt (now (text .entry)) (now (tree .entry)) i l → Declared (nameRows checked (rowsIn (now (text .entry)) (now (table .entry)) used) (f .level) (f .address) (scopeAt (now (text .entry)) (now (table .entry)) (f .scope)) l) (now (text .entry)) (now (table .entry)) used (now (table .exit)) r) ⌝ }
 {
     let count = tree::number_at(tree, i + 2);
     let scope = f.scope;
@@ -144,7 +146,7 @@ pub fn var_decl(
     let mut u = used;
     let mut k = 0;
     while k < count {
-        let r = var(
+        let r = name_decl(
             tree,
             j,
             text,
@@ -155,43 +157,7 @@ pub fn var_decl(
                 level,
                 address,
             },
-        );
-        let Made::At(m) = r else {
-            return r;
-        };
-        u = m;
-        address += 1;
-        j = tree::after(tree, j);
-        k += 1;
-    }
-    Made::At(u)
-}
-
-// The arguments of the list at i, one address each.
-fn arg_decl(tree: &[u32], i: usize, text: &[u8], table: &mut [u32], used: usize, f: Frame) -> Made
-    requires { ⌜ Can (now text) (now table) used f ⌝ }
-    requires { ⌜ HasNames (now text) (now tree) i ⌝ }
-    ensures { λ r. ⌜ ((l : List Name) → NamesAt (now (text .entry)) (now (tree .entry)) i l → Declared (argRows (rowsIn (now (text .entry)) (now (table .entry)) used) (f .level) (f .address) (scopeAt (now (text .entry)) (now (table .entry)) (f .scope)) l) (now (text .entry)) (now (table .entry)) used (now (table .exit)) r) ⌝ }
-{
-    let count = tree::number_at(tree, i + 2);
-    let scope = f.scope;
-    let level = f.level;
-    let mut address = f.address;
-    let mut j = i + 4;
-    let mut u = used;
-    let mut k = 0;
-    while k < count {
-        let r = arg(
-            tree,
-            j,
-            text,
-            table,
-            u,
-            Frame {
-                scope,
-                level,
-                address,
-            },
+            checked,
         );
         let Made::At(m) = r else {
             return r;
@@ -238,5 +204,5 @@ pub fn heading(
         level: f.level + 1,
         address: LINKS,
     };
-    arg_decl(tree, i + 8, text, table, u, inner)
+    names_decl(tree, i + 8, text, table, u, inner, false)
 }

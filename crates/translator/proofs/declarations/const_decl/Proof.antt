@@ -7,7 +7,7 @@ use lib.ListN.{length}
 use Rattle.tree.specs.Nodes.{constNode}
 use Rattle.tree.specs.Named.{NamedConst}
 use Rattle.symbols.specs.Table.{rowsIn, scopeAt}
-use Rattle.translator.proofs.Drafting.{stops}
+use Rattle.emission.specs.Drafting.{stops}
 use Rattle.translator.proofs.Rowing.{rowed-at, Grows, grows-start, grows-more, RowLoop, rows-start, rows-head, rows-stop, rows-more, rows-done, same-rows, const-each, addConst, list-fits, as-const}
 use Rattle.translator.proofs.declarations.const_decl.Statement.{statement}
 use Rattle.translator.proofs.declarations.const_decl.Tie as tie

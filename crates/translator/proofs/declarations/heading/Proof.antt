@@ -1,8 +1,7 @@
 -- The proof of `heading`.
 use borrow.Author.Needs.{needs}
 use native.Mathlib.Omega.{arith}
-use mathlib.Core.Path.{_∙_}
-use Rattle.translator.proofs.Drafting.{stops}
+use Rattle.emission.specs.Drafting.{stops}
 use Rattle.translator.proofs.Rowing.{head-numbers, heading-stop, grown, inner-can, heading-made}
 use borrow.Author.Needs.{needs}
 use Rattle.translator.proofs.declarations.heading.Statement.{statement}
@@ -10,7 +9,7 @@ use Rattle.translator.proofs.declarations.heading.Tie as tie
 use Rattle.translator.proofs.declarations.heading.Reads as reads
 use Rattle.translator.proofs.declarations.heading.Lts as lts
 use Rattle.symbols.proofs.enter.Reads as enter-reads
-use Rattle.translator.proofs.declarations.arg_decl.Reads as arg-decl-reads
+use Rattle.translator.proofs.declarations.names_decl.Reads as names-decl-reads
 use Rattle.translator.proofs.declarations.made.Reads as made-reads
 
 -- src/declarations.rt:175:18
@@ -82,12 +81,12 @@ add-t18 : tie.Need-add-t18
 add-t18 c = search needs
 
 -- src/declarations.rt:194:20
-add-arg-decl : tie.Need-add-arg-decl
-add-arg-decl c = omega (arith, head-numbers (c .before .before .before .before .before .before .before .before .before .before .before .before .before .before .before .pre .1 .1 .at) .fits, c .before .before .before .before .before .before .before .before .before .before .before .before .before .before .before .good)
+add-names-decl : tie.Need-add-names-decl
+add-names-decl c = omega (arith, head-numbers (c .before .before .before .before .before .before .before .before .before .before .before .before .before .before .before .pre .1 .1 .at) .fits, c .before .before .before .before .before .before .before .before .before .before .before .before .before .before .before .good)
 
 -- src/declarations.rt:194:5
-arg-decl-requires : tie.Need-arg-decl-requires
-arg-decl-requires c κs = (inner-can (c .before .before .before .before .before .before .before .before .before .before .before .before .before .before .before .before .args .text .now) (c .before .before .before .before .before .before .before .before .before .before .before .before .before .before .before .before .args .tree .now) (c .before .before .before .before .before .before .before .before .before .before .before .before .before .before .before .before .args .table .now) _ (c .before .before .before .before .before .before .before .before .before .before .before .before .before .before .before .before .args .i) (c .before .before .before .before .before .before .before .before .before .before .before .before .before .before .before .before .args .used) (c .before .before .before .before .before .before .before .before .before .before .before .before .before .before .before .before .args .f) (c .before .before .before .before .before .before .before .before .enter .result) (c .before .before .before .before .before .before .before .before .enter .ensures) (c .before .before .before .before .before .made .ensures) (c .before .before .before .r .given .1), record { list = c .before .before .before .before .before .before .before .before .before .before .before .before .before .before .before .before .pre .1 .1 .args; at = head-numbers (c .before .before .before .before .before .before .before .before .before .before .before .before .before .before .before .before .pre .1 .1 .at) .args-at })
+names-decl-requires : tie.Need-names-decl-requires
+names-decl-requires c κs = (inner-can (c .before .before .before .before .before .before .before .before .before .before .before .before .before .before .before .before .args .text .now) (c .before .before .before .before .before .before .before .before .before .before .before .before .before .before .before .before .args .tree .now) (c .before .before .before .before .before .before .before .before .before .before .before .before .before .before .before .before .args .table .now) _ (c .before .before .before .before .before .before .before .before .before .before .before .before .before .before .before .before .args .i) (c .before .before .before .before .before .before .before .before .before .before .before .before .before .before .before .before .args .used) (c .before .before .before .before .before .before .before .before .before .before .before .before .before .before .before .before .args .f) (c .before .before .before .before .before .before .before .before .enter .result) (c .before .before .before .before .before .before .before .before .enter .ensures) (c .before .before .before .before .before .made .ensures) (c .before .before .before .r .given .1), record { list = c .before .before .before .before .before .before .before .before .before .before .before .before .before .before .before .before .pre .1 .1 .args; at = head-numbers (c .before .before .before .before .before .before .before .before .before .before .before .before .before .before .before .before .pre .1 .1 .at) .args-at })
 
 -- src/declarations.rt:168:1
 same-length-2 : tie.Need-same-length-2
@@ -95,7 +94,7 @@ same-length-2 c = search needs
 
 -- src/declarations.rt:168:1
 returns-2 : tie.Need-returns-2
-returns-2 c = heading-made (c .before .before .before .before .before .before .before .before .before .before .before .before .before .before .before .before .before .before .before .args .text .now) (c .before .before .before .before .before .before .before .before .before .before .before .before .before .before .before .before .before .before .before .args .tree .now) (c .before .before .before .before .before .before .before .before .before .before .before .before .before .before .before .before .before .before .before .args .table .now) _ (c .before .before .before .before .before .before .before .before .before .before .before .before .before .before .before .before .before .before .before .args .i) (c .before .before .before .before .before .before .before .before .before .before .before .before .before .before .before .before .before .before .before .args .used) (c .before .before .before .before .before .before .before .before .before .before .before .before .before .before .before .before .before .before .before .args .f) (c .before .before .before .before .before .before .before .before .before .before .before .enter .result) (c .before .before .before .before .before .before .before .before .before .before .before .enter .ensures) (c .before .before .before .before .before .before .before .before .made .ensures) (c .before .before .before .before .before .before .r .given .1) (c .before .before .arg-decl .ensures)
+returns-2 c = heading-made (c .before .before .before .before .before .before .before .before .before .before .before .before .before .before .before .before .before .before .before .args .text .now) (c .before .before .before .before .before .before .before .before .before .before .before .before .before .before .before .before .before .before .before .args .tree .now) (c .before .before .before .before .before .before .before .before .before .before .before .before .before .before .before .before .before .before .before .args .table .now) _ (c .before .before .before .before .before .before .before .before .before .before .before .before .before .before .before .before .before .before .before .args .i) (c .before .before .before .before .before .before .before .before .before .before .before .before .before .before .before .before .before .before .before .args .used) (c .before .before .before .before .before .before .before .before .before .before .before .before .before .before .before .before .before .before .before .args .f) (c .before .before .before .before .before .before .before .before .before .before .before .enter .result) (c .before .before .before .before .before .before .before .before .before .before .before .enter .ensures) (c .before .before .before .before .before .before .before .before .made .ensures) (c .before .before .before .before .before .before .r .given .1) (c .before .before .names-decl .ensures)
 
 pub heading-spec : {M : Type 1} → statement M
 heading-spec =
@@ -118,7 +117,7 @@ heading-spec =
     returns
     cast-t14
     add-t18
-    add-arg-decl
-    arg-decl-requires
+    add-names-decl
+    names-decl-requires
     same-length-2
     returns-2)

@@ -3,7 +3,7 @@ use borrow.Author.Needs.{needs}
 use native.Mathlib.Omega.{arith}
 use mathlib.Core.Path.{refl, _∙_}
 use Rattle.pcode.specs.Code.{JMP}
-use Rattle.translator.proofs.Drafting.{stops}
+use Rattle.emission.specs.Drafting.{stops}
 use Rattle.translator.proofs.Insides.{consts-at, vars-at, procs-at}
 use Rattle.translator.proofs.Nested.{unfinished}
 use Rattle.translator.proofs.Whole.{block-inside, block-body, has-inside, has-main, never-full, block-start, block-stop, entered, env-known, body-stop, body-made}
@@ -13,8 +13,8 @@ use Rattle.translator.proofs.procedures.block.Tie as tie
 use Rattle.translator.proofs.procedures.block.Reads as reads
 use Rattle.translator.proofs.procedures.block.Lts as lts
 use Rattle.symbols.proofs.scopes.see.Reads as see-reads
-use Rattle.translator.proofs.emission.emit.Reads as emit-reads
-use Rattle.translator.proofs.emission.fix.Reads as fix-reads
+use Rattle.emission.proofs.emit.Reads as emit-reads
+use Rattle.emission.proofs.fix.Reads as fix-reads
 use Rattle.translator.proofs.procedures.finish.Reads as finish-reads
 use Rattle.translator.proofs.procedures.inside.Reads as inside-reads
 use Rattle.translator.proofs.procedures.refused.Reads as refused-reads

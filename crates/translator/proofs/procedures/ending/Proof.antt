@@ -2,7 +2,7 @@
 use borrow.Author.Needs.{needs}
 use native.Mathlib.Omega.{arith}
 use mathlib.Core.Path.{_∙_}
-use Rattle.translator.proofs.Drafting.{wrote-at, stops}
+use Rattle.emission.specs.Drafting.{wrote-at, stops}
 use Rattle.translator.proofs.Ending.{sta-stop, sta-made}
 use borrow.Author.Needs.{needs}
 use Rattle.translator.proofs.procedures.ending.Statement.{statement}

@@ -3,16 +3,16 @@ use borrow.Author.Needs.{needs}
 use native.Mathlib.Omega.{arith}
 use mathlib.Core.Path.{refl, _∙_}
 use Rattle.pcode.specs.Code.{INT, OPR}
-use Rattle.translator.proofs.Drafting.{stops}
-use Rattle.translator.proofs.Jumps.{one}
+use Rattle.emission.specs.Drafting.{stops}
+use Rattle.emission.specs.Jumps.{one}
 use Rattle.translator.proofs.Ending.{has-stmt, is-body, int-stop, body-stop, body-made}
 use borrow.Author.Needs.{needs}
 use Rattle.translator.proofs.procedures.finish.Statement.{statement}
 use Rattle.translator.proofs.procedures.finish.Tie as tie
 use Rattle.translator.proofs.procedures.finish.Reads as reads
 use Rattle.translator.proofs.procedures.finish.Lts as lts
-use Rattle.translator.proofs.emission.emit.Reads as emit-reads
-use Rattle.translator.proofs.statements.body.Reads as body-reads
+use Rattle.emission.proofs.emit.Reads as emit-reads
+use Rattle.emission.proofs.statements.body.Reads as body-reads
 
 -- src/procedures.rt:69:9
 emit-requires : tie.Need-emit-requires

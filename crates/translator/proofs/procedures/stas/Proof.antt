@@ -6,13 +6,13 @@ use Prim.Native.Nat.{_+_, _-_, _≤_}
 use lib.ListN.{length}
 use Rattle.pcode.specs.Code.{STA}
 use Rattle.translator.specs.Translate.{stas}
-use Rattle.translator.proofs.Drafting.{Sofar, stops}
+use Rattle.emission.specs.Drafting.{Sofar, stops}
 use Rattle.translator.proofs.Ending.{left, stas-start, stas-stop, stas-more, stas-done}
 use Rattle.translator.proofs.procedures.stas.Statement.{statement}
 use Rattle.translator.proofs.procedures.stas.Tie as tie
 use Rattle.translator.proofs.procedures.stas.Reads as reads
 use Rattle.translator.proofs.procedures.stas.Lts as lts
-use Rattle.translator.proofs.emission.emit.Reads as emit-reads
+use Rattle.emission.proofs.emit.Reads as emit-reads
 
 abbrev Inv-loop : tie.InvT-loop
 Inv-loop draft₀ n count m₀ i₀ draft m i = (length draft ≡ length draft₀) × ((1 ≤ i) × ((i ≤ count + 1) × Sofar (stas count 1 count) n draft₀ (left count i) m draft))

@@ -1,0 +1,7 @@
+pub mod Pieces
+pub mod Statements
+pub mod Draft
+pub mod Meets
+pub mod Drafting
+pub mod Jumps
+pub mod Names
