@@ -1,0 +1,6 @@
+pub mod Pages
+mod Figures
+mod Lines
+mod Spelling
+mod Counts
+mod Letters
