@@ -14,18 +14,18 @@ use Rattle.numbers.specs.Panel.{done}
 use Rattle.numbers.specs.Limits.{maxCells, maxVariables}
 use Rattle.numbers.specs.Stack.{links}
 use Rattle.tree.specs.Tree.{noProcs, Block}
-use Rattle.parser.specs.Grammar.{parse, tree}
+use Rattle.grammar.specs.Grammar.{parse, tree}
 use Rattle.pcode.specs.Code.{Code}
 use Rattle.machine.specs.Machine.{Ended, runOf}
 use Rattle.machine.specs.Outcome.{RunOutcome, runOutcome}
 use Rattle.walk.specs.Walk.{Walked}
-use Rattle.engine.specs.Compile.{numberOf, codeOf, compile, walk}
+use Rattle.outcomes.specs.Compile.{numberOf, codeOf, compile, walk}
 use Rattle.machine.specs.Runs.{outcomeOf}
 use Rattle.machine.specs.declared.runs.Ended.{Ended as Answer}
 use Rattle.engine.specs.declared.entries.Compiled.{Compiled}
 use Rattle.engine.specs.Entries.{compiledOf}
 use Rattle.engine.specs.Walking.{walkedOf}
-use Rattle.engine.specs.Outcomes.{Work, workHolds, CompileOutcome, compileOutcome, WalkOutcome, walkOutcome, cut}
+use Rattle.outcomes.specs.Outcomes.{Work, workHolds, CompileOutcome, compileOutcome, WalkOutcome, walkOutcome, cut}
 
 -- A walk and a run with the same budget, of a program with v variables, end alike. The walk's place i is the machine's cell 3 + i.
 pub record EndAlike (v budget : ℕ) (w : Walked) (r : Ended) : Type 0 where

@@ -11,15 +11,15 @@ use Rattle.numbers.specs.Panel.{done, roomTooSmall}
 use Rattle.numbers.specs.Limits.{maxCode, maxCells, maxVariables}
 use Rattle.numbers.specs.Stack.{links}
 use Rattle.tree.specs.Tree.{noProcs, Block}
-use Rattle.parser.specs.Grammar.{parse, tree}
+use Rattle.grammar.specs.Grammar.{parse, tree}
 use Rattle.pcode.specs.Code.{Instr, nil, placeFor, instrIn, Code, codeFor, placesIn, instrsIn, kind-back}
 use Rattle.machine.specs.Machine.{Ended, runOf}
 use Rattle.machine.specs.Sizes.{Sized, run-sized}
 use Rattle.walk.specs.Walk.{Walked}
-use Rattle.engine.specs.Compile.{Compiled, numberOf, codeOf, compile, walk}
+use Rattle.outcomes.specs.Compile.{Compiled, numberOf, codeOf, compile, walk}
 use Rattle.machine.specs.Outcome.{runLeaves, runOutcome}
 use Rattle.numbers.specs.Lent.{onto, filled}
-use Rattle.engine.specs.Outcomes.{codeHolds, CompileOutcome, compileLeaves, compileOutcome, walkLeaves, walkOutcome, cut, Work, workHolds}
+use Rattle.outcomes.specs.Outcomes.{codeHolds, CompileOutcome, compileLeaves, compileOutcome, walkLeaves, walkOutcome, cut, Work, workHolds}
 use Rattle.agreement.specs.Agreement.{OutcomesAlike}
 use Rattle.agreement.specs.Program.{Agrees}
 use Rattle.agreement.specs.Texts.{agreement, few-variables, variables, steps as same-steps}

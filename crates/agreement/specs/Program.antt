@@ -22,7 +22,7 @@ use Rattle.emission.specs.Statements.{stmtsCode}
 use Rattle.translator.specs.Translate.{finished, procsCode, blockCode}
 use Rattle.machine.specs.Machine.{Step, next, halt, stop, Ended, ended, run, step, perform, operate, from, cellAt, goto, with}
 use Rattle.walk.specs.Walk.{State, Result, Walk, then, tick, atTop, walkMain, Walked, walked, declaredRows}
-use Rattle.engine.specs.Accepted.{with-rows, with-code}
+use Rattle.outcomes.specs.Accepted.{with-rows, with-code}
 use Rattle.agreement.specs.Declared.{const-rows, var-rows, sound-rows}
 use Rattle.agreement.specs.Exprs.{SoundFound, main}
 use Rattle.agreement.specs.InStep.{at, frame, Rel, Sim, came, stopped, makes}

@@ -11,17 +11,17 @@ use Rattle.numbers.specs.Panel.{roomTooSmall, procedureInTree}
 use Rattle.numbers.specs.Limits.{maxCode, maxCells, maxVariables, treePlaces, tablePlaces, draftPlaces}
 use Rattle.numbers.specs.Stack.{links}
 use Rattle.tree.specs.Tree.{Procs, noProcs, proc, Block}
-use Rattle.parser.specs.Grammar.{parse, Parsed, tree, refused}
+use Rattle.grammar.specs.Grammar.{parse, Parsed, tree, refused}
 use Rattle.pcode.specs.Code.{Instr, nil, Place, placeFor, Code, codeFor, instrsIn}
 use Rattle.machine.specs.Machine.{Ended, runOf}
 use Rattle.machine.specs.Sizes.{Sized, run-sized}
 use Rattle.walk.specs.Walk.{Walked, begin, walkBlock}
-use Rattle.engine.specs.Compile.{Compiled, accepted, notAccepted, codeOf, compile, unwalked, walkUnless, walkAfter, walk}
+use Rattle.outcomes.specs.Compile.{Compiled, accepted, notAccepted, codeOf, compile, unwalked, walkUnless, walkAfter, walk}
 use Rattle.machine.specs.Outcome.{RunOutcome, runLeaves, runOutcome}
 use Rattle.numbers.specs.Lent.{holds, onto, filled}
-use Rattle.engine.specs.Outcomes.{codeHolds, CompileOutcome, compileLeaves, compileOutcome, WalkOutcome, walkLeaves, walkOutcome, Work, workHolds, cleared}
+use Rattle.outcomes.specs.Outcomes.{codeHolds, CompileOutcome, compileLeaves, compileOutcome, WalkOutcome, walkLeaves, walkOutcome, Work, workHolds, cleared}
 use Rattle.agreement.specs.Program.{Agrees, standing}
-use Rattle.engine.specs.Accepted.{accepted-shape}
+use Rattle.outcomes.specs.Accepted.{accepted-shape}
 use Rattle.agreement.specs.Texts.{taken, block-agrees}
 
 pub code-fits : (src : List ℕ) → length (codeOf (compile src)) ≤ maxCode

@@ -15,9 +15,9 @@ use Rattle.numbers.specs.Limits.{maxCode, maxCells, maxRows, maxSource}
 use Rattle.numbers.specs.Stack.{links}
 use Rattle.numbers.specs.Bytes.{isAscii, every}
 use Rattle.lexer.specs.Tokens.{Name}
-use Rattle.parser.specs.Grammar.{parse, Parsed, tree, refused}
+use Rattle.grammar.specs.Grammar.{parse, Parsed, tree, refused}
 use Rattle.parser.specs.Entry.{reading}
-use Rattle.parser.specs.Refusals.{parse-refuses}
+use Rattle.grammar.specs.Refusals.{parse-refuses}
 use Rattle.tree.specs.Tree.{Exp, call, noProcs, Block}
 use Rattle.pcode.specs.Operators.{return}
 use Rattle.pcode.specs.Code.{INT, JMP, Instr, ins}
@@ -28,8 +28,8 @@ use Rattle.emission.specs.Statements.{stmtCode, stmtsCode}
 use Rattle.translator.specs.Translate.{Done, finished, failed, blockCode}
 use Rattle.machine.specs.Machine.{Ended, run, runOf, start}
 use Rattle.walk.specs.Walk.{walkMain, Walked, walked, begin, declaredRows, walkBlock}
-use Rattle.engine.specs.Compile.{accepted, notAccepted, numberOf, codeOf, compile, fromTree, translated, walkAfter, walkParsed, walkUnless, walk}
-use Rattle.engine.specs.Accepted.{behind, accepted-shape}
+use Rattle.outcomes.specs.Compile.{accepted, notAccepted, numberOf, codeOf, compile, fromTree, translated, walkAfter, walkParsed, walkUnless, walk}
+use Rattle.outcomes.specs.Accepted.{behind, accepted-shape}
 use Rattle.agreement.specs.Declared.{const-rows, var-rows, sound-rows}
 use Rattle.agreement.specs.Exprs.{main}
 use Rattle.agreement.specs.InStep.{frame}

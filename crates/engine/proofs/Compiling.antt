@@ -13,8 +13,8 @@ use Rattle.numbers.specs.Limits.{maxCode, treePlaces, tablePlaces, draftPlaces}
 use Rattle.numbers.specs.Lent.{onto, filled}
 use Rattle.pcode.specs.Code.{nil, Code, codeFor}
 use Rattle.translator.specs.declared.Translated.{Translated}
-use Rattle.engine.specs.Compile.{Compiled, codeOf, compile}
-use Rattle.engine.specs.Outcomes.{CompileOutcome, Work, codeHolds, workHolds, compileLeaves, compileOutcome}
+use Rattle.outcomes.specs.Compile.{Compiled, codeOf, compile}
+use Rattle.outcomes.specs.Outcomes.{CompileOutcome, Work, codeHolds, workHolds, compileLeaves, compileOutcome}
 use Rattle.engine.specs.Entries.{numberIn, lengthIn, Taken}
 
 -- working room after drafting, and at the end: zeros, and beyond them what was lent

@@ -14,7 +14,7 @@ use Rattle.tree.specs.Layout.{half}
 use Rattle.pcode.specs.Code.{Op, NIL, LIT, OPR, LOD, STO, STA, CAL, INT, JMP, JPC, RED, WRT, Instr, nil, kindNo}
 use Rattle.emission.specs.Draft.{opNo}
 use Rattle.engine.specs.Handing.{Drafts, four-at}
-use Rattle.engine.proofs.Putting.{Put, put-length, put-more, put-all}
+use Rattle.numbers.proofs.Putting.{Put, put-length, put-more, put-all}
 
 -- k of n drafted instructions are handed out, by what a place carries of each
 pub record Handed {A : Type 0} (f : Instr → A) (draft : List ℕ) (n : ℕ) (lent xs : List A) (k : ℕ) : Type 0 where

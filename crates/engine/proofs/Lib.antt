@@ -1,4 +1,3 @@
-pub mod Putting
 pub mod Handing
 pub mod Leaving
 pub mod Drafting

@@ -15,7 +15,7 @@ use Rattle.numbers.specs.Lent.{holds, onto, filled}
 use Rattle.tree.specs.Tree.{Procs, noProcs, proc, Block}
 use Rattle.tree.specs.Layout.{enc, Stands}
 use Rattle.tree.specs.Nodes.{blockNode}
-use Rattle.parser.specs.Grammar.{Parsed, tree, parse}
+use Rattle.grammar.specs.Grammar.{Parsed, tree, parse}
 use Rattle.pcode.specs.Code.{Instr}
 use Rattle.symbols.specs.Symbols.{mainScope, Row, rows, constRows, varRows}
 use Rattle.translator.specs.declared.Translated.{Translated}
@@ -26,9 +26,9 @@ use Rattle.machine.specs.declared.runs.Ended.{Ended}
 use Rattle.walk.specs.declared.progress.Outcome.{Outcome}
 use Rattle.walk.specs.Walk.{Walked, begin, walkBlock}
 use Rattle.walk.specs.Trees.{anyProcs, TreeAt, Walks, finished as walked, halted}
-use Rattle.engine.specs.Compile.{Compiled, compile, unwalked, walkUnless, walkAfter, walkParsed, walk}
-use Rattle.engine.specs.Outcomes.{Work, workHolds, WalkOutcome, walkLeaves, walkOutcome}
-use Rattle.engine.specs.Accepted.{tree-read, accepts, with-rows, with-code}
+use Rattle.outcomes.specs.Compile.{Compiled, compile, unwalked, walkUnless, walkAfter, walkParsed, walk}
+use Rattle.outcomes.specs.Outcomes.{Work, workHolds, WalkOutcome, walkLeaves, walkOutcome}
+use Rattle.outcomes.specs.Accepted.{tree-read, accepts, with-rows, with-code}
 use Rattle.engine.specs.Entries.{Ready, Drafting, ready, refusal}
 use Rattle.engine.specs.Walking.{refusedWith, endedOf, leftIn, Leaves, walkedOf}
 use Rattle.engine.proofs.Compiling.{Wiped, wiped}

@@ -9,16 +9,16 @@ use lib.Seq.{take-take}
 use Rattle.numbers.specs.Panel.{done}
 use Rattle.numbers.specs.Limits.{maxCode, tablePlaces, draftShare, draftPlaces}
 use Rattle.tree.specs.Tree.{Block}
-use Rattle.parser.specs.Grammar.{tree}
+use Rattle.grammar.specs.Grammar.{tree}
 use Rattle.parser.specs.Entry.{reading}
 use Rattle.translator.specs.declared.Translated.{Translated}
 use Rattle.translator.specs.declared.Translated.the-variants.{Length, Refused}
 use Rattle.translator.specs.Blocks.{BlockAt, Whole}
 use Rattle.emission.specs.Draft.{drafted}
 use Rattle.engine.specs.declared.entries.Compiled.{Compiled as Answer}
-use Rattle.engine.specs.Compile.{Compiled, accepted, notAccepted, numberOf, codeOf, compile}
-use Rattle.engine.specs.Outcomes.{CompileOutcome}
-use Rattle.engine.specs.Accepted.{accepted-shape, accepts}
+use Rattle.outcomes.specs.Compile.{Compiled, accepted, notAccepted, numberOf, codeOf, compile}
+use Rattle.outcomes.specs.Outcomes.{CompileOutcome}
+use Rattle.outcomes.specs.Accepted.{accepted-shape, accepts}
 use Rattle.engine.specs.Handing.{Drafts, shape-drafts, no-drafts}
 
 -- a text was read and translated: its tree stands in the working room, with its k symbol rows and its n instructions

@@ -12,7 +12,7 @@ use Rattle.walk.specs.declared.progress.Progress.{Progress}
 use Rattle.walk.specs.declared.progress.Outcome.{Outcome}
 use Rattle.walk.specs.declared.progress.Outcome.the-variants.{Done, Refused}
 use Rattle.walk.specs.Walk.{Walked}
-use Rattle.engine.specs.Outcomes.{WalkOutcome}
+use Rattle.outcomes.specs.Outcomes.{WalkOutcome}
 
 -- no step was made
 abbrev pub refusedWith : ℕ → Ended

@@ -12,7 +12,7 @@ ghost use mathlib.Core.Path.{_≡_};
 ghost use mathlib.Core.Bool.{_&&_};
 ghost use lib.Dec.{leb};
 ghost use Rattle.numbers.specs.Limits.{maxCode, treePlaces, tablePlaces, draftPlaces};
-ghost use Rattle.engine.specs.Outcomes.{compileOutcome};
+ghost use Rattle.outcomes.specs.Outcomes.{compileOutcome};
 ghost use Rattle.engine.specs.Entries.{compiledOf};
 
 // "lent room too small"

@@ -6,7 +6,7 @@ use machine::Ended;
 ghost use mathlib.Core.Path.{_≡_};
 ghost use Rattle.machine.specs.Outcome.{runOutcome};
 ghost use Rattle.machine.specs.Runs.{outcomeOf};
-ghost use Rattle.engine.specs.Outcomes.{compileOutcome, walkOutcome};
+ghost use Rattle.outcomes.specs.Outcomes.{compileOutcome, walkOutcome};
 ghost use Rattle.engine.specs.Entries.{compiledOf};
 ghost use Rattle.engine.specs.Walking.{walkedOf};
 

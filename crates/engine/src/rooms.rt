@@ -1,4 +1,5 @@
 // What the entries leave in lent lists: zeros, and NIL 0 0 beyond the last instruction.
+use numbers::room::clear;
 ghost use mathlib.Core.Path.{_≡_};
 ghost use mathlib.Core.List.{_++_};
 ghost use Prim.Native.Nat.{_-_, _≤_};
@@ -20,18 +21,6 @@ pub const TABLE: usize = 6144;
 
 pub const DRAFT: usize = 16384;
 
-// Zeros in the first n places of working room.
-pub fn clear(room: &mut [u32], n: usize)
-    requires { ⌜ n ≤ length (now room) ⌝ }
-    ensures { λ _. ⌜ now (room .exit) ≡ onto (now (room .entry)) (replicate n 0) ⌝ }
-{
-    let mut k = 0;
-    while k < n {
-        room[k] = 0;
-        k += 1;
-    }
-}
-
 // Working room is zero on return.
 pub fn wipe(tree: &mut [u32], table: &mut [u32], draft: &mut [u32])
     requires { ⌜ treePlaces ≤ length (now tree) ⌝ }
@@ -41,9 +30,9 @@ pub fn wipe(tree: &mut [u32], table: &mut [u32], draft: &mut [u32])
     ensures { λ _. ⌜ now (table .exit) ≡ onto (now (table .entry)) (replicate tablePlaces 0) ⌝ }
     ensures { λ _. ⌜ now (draft .exit) ≡ onto (now (draft .entry)) (replicate draftPlaces 0) ⌝ }
 {
-    clear(tree, TREE);
-    clear(table, TABLE);
-    clear(draft, DRAFT);
+    clear(tree, 0, TREE);
+    clear(table, 0, TABLE);
+    clear(draft, 0, DRAFT);
 }
 
 // NIL in the code places from `from` on.

@@ -17,8 +17,8 @@ ghost use lib.IntN.{pos};
 ghost use lib.ListN.{length, replicate};
 ghost use Rattle.numbers.specs.Limits.{maxVariables, tablePlaces};
 ghost use Rattle.numbers.specs.Lent.{onto};
-ghost use Rattle.engine.specs.Compile.{walk};
-ghost use Rattle.engine.specs.Outcomes.{walkOutcome};
+ghost use Rattle.outcomes.specs.Compile.{walk};
+ghost use Rattle.outcomes.specs.Outcomes.{walkOutcome};
 ghost use Rattle.engine.specs.Entries.{Drafting};
 ghost use Rattle.engine.specs.Walking.{refusedWith, endedAt, endedOf, leftIn, Leaves, walkedOf};
 

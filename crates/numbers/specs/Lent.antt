@@ -3,7 +3,7 @@ use mathlib.Core.Bool.{Bool}
 use mathlib.Core.List.{List, _++_}
 use Prim.Native.Nat.{ℕ, _-_}
 use lib.Dec.{leb}
-use lib.ListN.{length, drop, replicate}
+use lib.ListN.{length, take, drop, replicate}
 
 -- a lent list has so many places
 abbrev pub holds : {A : Type 0} → ℕ → List A → Bool
@@ -16,3 +16,7 @@ onto lent new = new ++ drop (length new) lent
 -- so many places: the contents, and z beyond them
 abbrev pub filled : {A : Type 0} → ℕ → A → List A → List A
 filled n z l = l ++ replicate (n - length l) z
+
+-- the places of a lent list before `from`, and z in those from there up to `to`
+abbrev pub filling : {A : Type 0} → ℕ → ℕ → A → List A → List A
+filling from to z lent = take from lent ++ replicate (to - from) z

@@ -27,8 +27,8 @@ use Rattle.parser.specs.declared.see.Seen.{Seen}
 use Rattle.parser.specs.declared.see.Seen.the-variants.{At, Refused as Stop}
 use Rattle.parser.specs.declared.answer.Answer.{Answer}
 use Rattle.parser.specs.declared.answer.Answer.the-variants.{Node, Nothing, Refused}
-use Rattle.parser.specs.Reader.{then, enter, want, ifNext}
-use Rattle.parser.specs.Grammar.{Start, assignStart, ifStart, whileStart, callStart, bodyStart, readStart, writeStart, starts, startOf, stmt, statement, bodyOf, stmts, both, mapO}
+use Rattle.grammar.specs.Reader.{then, enter, want, ifNext}
+use Rattle.grammar.specs.Grammar.{Start, assignStart, ifStart, whileStart, callStart, bodyStart, readStart, writeStart, starts, startOf, stmt, statement, bodyOf, stmts, both, mapO}
 use Rattle.parser.specs.Parts.{only}
 use Rattle.parser.specs.Pieces as P
 use Rattle.parser.specs.Pieces.{quietRest, Quiets}

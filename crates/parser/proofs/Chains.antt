@@ -19,8 +19,8 @@ use Rattle.parser.specs.declared.see.Seen.{Seen}
 use Rattle.parser.specs.declared.see.Seen.the-variants.{At, Refused as Stop}
 use Rattle.parser.specs.declared.answer.Answer.{Answer}
 use Rattle.parser.specs.declared.answer.Answer.the-variants.{Node, Nothing, Refused}
-use Rattle.parser.specs.Reader.{then, pure, ifNext}
-use Rattle.parser.specs.Grammar.{chained}
+use Rattle.grammar.specs.Reader.{then, pure, ifNext}
+use Rattle.grammar.specs.Grammar.{chained}
 use Rattle.parser.specs.Parts.{only, operand}
 use Rattle.parser.specs.Written.{Wrote, Seals}
 use Rattle.parser.specs.See.{Saw, Sees, whyOf, operatorOf}

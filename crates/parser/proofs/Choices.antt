@@ -6,7 +6,7 @@ use Prim.Native.Nat.{ℕ}
 use Rattle.lexer.specs.Marks.{Mark}
 use Rattle.lexer.specs.Tokens.{Token as Word}
 use Rattle.lexer.specs.Cursor.{Cursor as Place, Ans, got, refuse, Reader, look, take}
-use Rattle.parser.specs.Reader.{then, isMark, ifNext}
+use Rattle.grammar.specs.Reader.{then, isMark, ifNext}
 use Rattle.parser.proofs.Seeing.{choose}
 
 -- one after the other, twice

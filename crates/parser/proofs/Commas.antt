@@ -15,7 +15,7 @@ use Rattle.parser.specs.declared.see.Seen.{Seen}
 use Rattle.parser.specs.declared.see.Seen.the-variants.{At, Refused as Stop}
 use Rattle.parser.specs.declared.answer.Answer.{Answer}
 use Rattle.parser.specs.declared.answer.Answer.the-variants.{Node, Nothing, Refused}
-use Rattle.parser.specs.Reader.{then, commas}
+use Rattle.grammar.specs.Reader.{then, commas}
 use Rattle.parser.specs.Parts.{only}
 use Rattle.parser.specs.Lists.{closed, Ended as Closing, Ends}
 use Rattle.parser.specs.See.{Sees, Wants, whyOf}

@@ -23,8 +23,8 @@ use Rattle.parser.specs.declared.see.Seen.{Seen}
 use Rattle.parser.specs.declared.see.Seen.the-variants.{At, Refused as Stop}
 use Rattle.parser.specs.declared.answer.Answer.{Answer}
 use Rattle.parser.specs.declared.answer.Answer.the-variants.{Node, Nothing, Refused}
-use Rattle.parser.specs.Reader.{then}
-use Rattle.parser.specs.Grammar.{exp, cond, comparisons, comparisonOf, compareWith}
+use Rattle.grammar.specs.Reader.{then}
+use Rattle.grammar.specs.Grammar.{exp, cond, comparisons, comparisonOf, compareWith}
 use Rattle.parser.specs.Parts.{only, operand, condition, comparing, Compares, odds, compared}
 use Rattle.parser.specs.Written.{Wrote, Seals}
 use Rattle.parser.specs.See.{Sees, whyOf}

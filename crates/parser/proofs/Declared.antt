@@ -15,8 +15,8 @@ use Rattle.parser.specs.declared.see.Seen.{Seen}
 use Rattle.parser.specs.declared.see.Seen.the-variants.{At, Refused as Stop}
 use Rattle.parser.specs.declared.answer.Answer.{Answer}
 use Rattle.parser.specs.declared.answer.Answer.the-variants.{Node}
-use Rattle.parser.specs.Reader.{then, pure, ifNext, wantName, wantNumber}
-use Rattle.parser.specs.Grammar.{constDef, constPart, varPart, argPart}
+use Rattle.grammar.specs.Reader.{then, pure, ifNext, wantName, wantNumber}
+use Rattle.grammar.specs.Grammar.{constDef, constPart, varPart, argPart}
 use Rattle.parser.specs.Parts.{only}
 use Rattle.parser.specs.Lists.{closed}
 use Rattle.parser.specs.Blocks.{decls, declsNodes}

@@ -3,29 +3,31 @@ use mathlib.Core.Path.{_≡_, refl, sym, ap, _∙_}
 use mathlib.Core.Bool.{Bool, true, false, _&&_}
 use mathlib.Core.List.{List, [], _∷_, _++_}
 use mathlib.Core.Option.{Option, none, some}
-use Prim.Native.Nat.{ℕ, suc, _+_, _*_, _≤_, _<_}
+use Prim.Native.Nat.{ℕ, suc, _+_, _-_, _*_, _≤_, _<_}
 use native.Mathlib.Numerals.{add-one}
 use native.Mathlib.Omega.{arith}
 use lib.Dec.{leb, ltb}
-use lib.ListN.{length, getD, take, drop, drop-of-length-le}
+use lib.ListN.{length, getD, take, drop, replicate, length-append, length-replicate, drop-of-length-le}
 use lib.Seq.{drop-cons, take-append-le, length-take-le, drop-at}
 use borrow.Author.Tests.{le-leb, lt-leb, le-ltb, lt-ltb}
 use Rattle.numbers.specs.Limits.{maxSource, treePlaces, maxTokens}
+use Rattle.numbers.specs.Lent.{onto, filled, filling}
 use Rattle.numbers.specs.Bytes.{isAscii, every}
 use Rattle.numbers.specs.Panel.{sourceTooLong, sourceNotAscii, bodyFailedQuietly, roomTooSmall}
 use Rattle.lexer.specs.Cursor.{Cursor as Place, Ans, got, refuse}
 use Rattle.lexer.specs.Kinds.{looked}
 use Rattle.lexer.specs.Stands.{Stands, start, start-stands, left}
+use Rattle.tree.specs.Tree.{Block}
 use Rattle.tree.specs.Layout.{noMore, member, size, sizes, enc, encs}
 use Rattle.tree.specs.Nodes.{blockNode}
 use Rattle.parser.specs.declared.answer.Answer.{Answer}
 use Rattle.parser.specs.declared.answer.Answer.the-variants.{Node, Nothing, Refused as Stopped}
 use Rattle.parser.specs.declared.Parsed.{Parsed}
 use Rattle.parser.specs.declared.Parsed.the-variants.{Tree, Refused}
-use Rattle.parser.specs.Grammar.{tree, refused, parsed, parse, program, fuel}
+use Rattle.grammar.specs.Grammar.{tree, refused, parsed, parse, program, fuel}
 use Rattle.parser.specs.Parts.{only}
 use Rattle.parser.specs.Meets.{Room, Safe, Means, Tries}
-use Rattle.parser.specs.Entry.{reading, concludedOf, Answers, Parses}
+use Rattle.parser.specs.Entry.{reading, concludedOf, answerOf, numbersOf, endOf, Reads, Parses}
 
 append-nil : (l : List ℕ) → l ++ [] ≡ l
 append-nil [] = refl
@@ -56,6 +58,11 @@ module _ (s : List ℕ) (i : ℕ) (x : Bool) (scanned : x && every isAscii (drop
       let past : every isAscii (drop i s) ≡ true = rw (drop-of-length-le s h) in
       sym (ap (λ (y : Bool). x && y) past ∙ both-true x) ∙ scanned
 
+-- a tree that ends within the room, whose numbers stand in ys; or a refusal
+unfoldable Concludes : List ℕ → List ℕ → Parsed → Type 0
+Concludes src ys (Tree end) = (b : Block) × ((reading src ≡ tree b) × (((end ≡ size (blockNode b)) × (end ≤ treePlaces)) × (take end ys ≡ enc (blockNode b))))
+Concludes src ys (Refused w) = reading src ≡ refused w
+
 -- the room at the start
 pub room-start : (src xs : List ℕ) → length src ≤ maxSource → length xs ≡ treePlaces → Room src xs 0 20 start
 unfolding left looked
@@ -74,30 +81,53 @@ module _ (src : List ℕ) where
   unfolding reading
   read h e = rw (le-leb _ _ h, e, reading)
 
-  pub parses-small : {xs : List ℕ} → length xs < treePlaces → Parses src xs xs (Refused roomTooSmall)
-  parses-small h = record { small = λ l. (refl, refl); large = λ l. absurd (omega arith); beyond = refl }
+  -- a refusal
+  refusing : {xs ys : List ℕ} (n : ℕ) → reading src ≡ refused n → drop treePlaces ys ≡ drop treePlaces xs → Reads src xs ys (Refused n)
+  refusing n e d = record { answer = sym (ap answerOf e); stands = sym (ap numbersOf e); within = omega arith; beyond = d }
 
-  pub parses-long : {xs : List ℕ} → treePlaces ≤ length xs → maxSource < length src → Parses src xs xs (Refused sourceTooLong)
-  unfolding Answers
-  parses-long l h = record { small = λ z. absurd (omega arith); large = λ z. too-long h; beyond = refl }
+  pub reads-long : {xs : List ℕ} → maxSource < length src → Reads src xs xs (Refused sourceTooLong)
+  reads-long h = refusing sourceTooLong (too-long h) refl
 
-  pub parses-bytes : {xs : List ℕ} → treePlaces ≤ length xs → length src ≤ maxSource → every isAscii src ≡ false → Parses src xs xs (Refused sourceNotAscii)
-  unfolding Answers
-  parses-bytes l h e = record { small = λ z. absurd (omega arith); large = λ z. not-ascii h e; beyond = refl }
+  pub reads-bytes : {xs : List ℕ} → length src ≤ maxSource → every isAscii src ≡ false → Reads src xs xs (Refused sourceNotAscii)
+  reads-bytes h e = refusing sourceNotAscii (not-ascii h e) refl
 
   -- the part that was lent, with what stands after it
-  module _ (xs ys : List ℕ) (many : treePlaces ≤ length xs) (lent : length ys ≡ treePlaces) (short : length src ≤ maxSource) (bytes : every isAscii src ≡ true) where
-    answers : (r : Answer) → Tries (λ b. only (blockNode b)) src (take treePlaces xs) 0 ys (λ n. program src n) (8 * left start) 0 16 start r → Answers src (ys ++ drop treePlaces xs) (concludedOf r)
-    unfolding Answers Safe Means parse parsed left looked sizes encs
-    answers (Node e d) h =
+  module _ (xs ys : List ℕ) (lent : length ys ≡ treePlaces) (short : length src ≤ maxSource) (bytes : every isAscii src ≡ true) where
+    concludes : (r : Answer) → Tries (λ b. only (blockNode b)) src (take treePlaces xs) 0 ys (λ n. program src n) (8 * left start) 0 16 start r → Concludes src (ys ++ drop treePlaces xs) (concludedOf r)
+    unfolding Concludes Safe Means parse parsed left looked sizes encs
+    concludes (Node e d) h =
         let b = h .means fuel (omega arith) (record { seen = 0; at = 0 }) (start-stands src) in
         let w = b .wrote in
         let g = h .safe in
-        (b .value, (read short bytes ∙ ap parsed (b .is), (omega (arith, w .ends), take-append-le e ys (drop treePlaces xs) (omega (arith, g .room, lent)) ∙ w .lies ∙ append-nil (enc (blockNode (b .value))))))
-    answers (Nothing d) h =
+        (b .value, (read short bytes ∙ ap parsed (b .is), ((omega (arith, w .ends), omega (arith, g .room)), take-append-le e ys (drop treePlaces xs) (omega (arith, g .room, lent)) ∙ w .lies ∙ append-nil (enc (blockNode (b .value))))))
+    concludes (Nothing d) h =
         let b = h .means fuel (omega arith) (record { seen = 0; at = 0 }) (start-stands src) in
         read short bytes ∙ ap parsed (b .is ∙ ap (λ v. got v (b .at)) (b .empty))
-    answers (Stopped w) h = read short bytes ∙ ap parsed (h .means fuel (omega arith) (record { seen = 0; at = 0 }) (start-stands src))
+    concludes (Stopped w) h = read short bytes ∙ ap parsed (h .means fuel (omega arith) (record { seen = 0; at = 0 }) (start-stands src))
 
-    pub parses : (r : Answer) → Tries (λ b. only (blockNode b)) src (take treePlaces xs) 0 ys (λ n. program src n) (8 * left start) 0 16 start r → Parses src xs (ys ++ drop treePlaces xs) (concludedOf r)
-    parses r h = record { small = λ z. absurd (omega arith); large = λ z. answers r h; beyond = drop-at ys (drop treePlaces xs) treePlaces lent }
+    whole : (p : Parsed) → Concludes src (ys ++ drop treePlaces xs) p → Reads src xs (ys ++ drop treePlaces xs) p
+    unfolding Concludes
+    whole (Tree e) (b, (f, ((n, l), t))) = record { answer = ap Tree n ∙ sym (ap answerOf f); stands = t ∙ sym (ap numbersOf f); within = l; beyond = drop-at ys (drop treePlaces xs) treePlaces lent }
+    whole (Refused w) f = refusing w f (drop-at ys (drop treePlaces xs) treePlaces lent)
+
+    pub reads : (r : Answer) → Tries (λ b. only (blockNode b)) src (take treePlaces xs) 0 ys (λ n. program src n) (8 * left start) 0 16 start r → Reads src xs (ys ++ drop treePlaces xs) (concludedOf r)
+    reads r h = whole (concludedOf r) (concludes r h)
+
+  pub parses-small : {xs : List ℕ} → length xs < treePlaces → Parses src xs xs (Refused roomTooSmall)
+  parses-small h = record { small = λ l. (refl, refl); large = λ l. absurd (omega arith); beyond = refl }
+
+  -- what was read, once the room behind it is zero
+  pub parses : {xs ys zs : List ℕ} {r : Parsed} → treePlaces ≤ length xs → length ys ≡ length xs → Reads src xs ys r → zs ≡ onto ys (filling (endOf r) treePlaces 0 ys) → Parses src xs zs r
+  parses {xs} {ys} {zs} {r} h l a e =
+      let numbers : List ℕ = numbersOf (reading src) in
+      let m : length numbers ≡ endOf r = sym (ap length (a .stands)) ∙ length-take-le (endOf r) ys (omega (arith, a .within)) in
+      let new : List ℕ = filled treePlaces 0 numbers in
+      let n : filling (endOf r) treePlaces 0 ys ≡ new = ap (λ (t : List ℕ). t ++ replicate (treePlaces - endOf r) 0) (a .stands) ∙ ap (λ (k : ℕ). numbers ++ replicate (treePlaces - k) 0) (sym m) in
+      let all : length new ≡ treePlaces = omega (arith, length-append numbers (replicate (treePlaces - length numbers) 0), length-replicate {A = ℕ} (treePlaces - length numbers) 0, m, a .within) in
+      let d : drop (length new) ys ≡ drop (length new) xs = ap (λ (k : ℕ). drop k ys) all ∙ a .beyond ∙ ap (λ (k : ℕ). drop k xs) (sym all) in
+      let whole : zs ≡ onto xs new = e ∙ ap (onto ys) n ∙ ap (λ (t : List ℕ). new ++ t) d in
+      record {
+        small = λ z. absurd (omega arith);
+        large = λ z. (a .answer, whole);
+        beyond = ap (drop treePlaces) whole ∙ drop-at new (drop (length new) xs) treePlaces all ∙ ap (λ (k : ℕ). drop k xs) all;
+      }

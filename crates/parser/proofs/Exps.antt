@@ -25,8 +25,8 @@ use Rattle.parser.specs.declared.see.Seen.{Seen}
 use Rattle.parser.specs.declared.see.Seen.the-variants.{At, Refused as Stop}
 use Rattle.parser.specs.declared.answer.Answer.{Answer}
 use Rattle.parser.specs.declared.answer.Answer.the-variants.{Node, Nothing, Refused}
-use Rattle.parser.specs.Reader.{then, pure, fail, enter, want, ifNext}
-use Rattle.parser.specs.Grammar.{chained, exp, terms, term, factors, factor}
+use Rattle.grammar.specs.Reader.{then, pure, fail, enter, want, ifNext}
+use Rattle.grammar.specs.Grammar.{chained, exp, terms, term, factors, factor}
 use Rattle.parser.specs.Parts.{operand, negated, signed, bracketed}
 use Rattle.parser.specs.Written.{Wrote, Seals}
 use Rattle.parser.specs.See.{Saw, Sees, Wants, whyOf}

@@ -16,8 +16,8 @@ use Rattle.parser.specs.declared.see.Seen.{Seen}
 use Rattle.parser.specs.declared.see.Seen.the-variants.{At, Refused as Stop}
 use Rattle.parser.specs.declared.answer.Answer.{Answer}
 use Rattle.parser.specs.declared.answer.Answer.the-variants.{Node, Nothing, Refused}
-use Rattle.parser.specs.Reader.{then, want, ifNext}
-use Rattle.parser.specs.Grammar.{cond, stmt, bodyOf, stmts, ifNode, mapO}
+use Rattle.grammar.specs.Reader.{then, want, ifNext}
+use Rattle.grammar.specs.Grammar.{cond, stmt, bodyOf, stmts, ifNode, mapO}
 use Rattle.parser.specs.Parts.{only, condition}
 use Rattle.parser.specs.Pieces.{statement, body, looped, conditional, elsePart}
 use Rattle.parser.specs.Written.{Wrote, Seals}

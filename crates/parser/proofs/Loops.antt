@@ -11,7 +11,7 @@ use Rattle.lexer.specs.declared.cursor.Cursor.{Cursor}
 use Rattle.tree.specs.Layout.{Nodes, noMore, member, count}
 use Rattle.tree.specs.Reading.{sizes-least}
 use Rattle.tree.specs.Writing.{join, join-join, count-join}
-use Rattle.parser.specs.Reader.{then}
+use Rattle.grammar.specs.Reader.{then}
 use Rattle.parser.specs.Written.{Wrote}
 use Rattle.parser.specs.Meets.{Room}
 use Rattle.parser.proofs.Writing.{wrote-none, wrote-more}

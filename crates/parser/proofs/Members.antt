@@ -19,8 +19,8 @@ use Rattle.parser.specs.declared.see.Seen.{Seen}
 use Rattle.parser.specs.declared.see.Seen.the-variants.{At, Refused as Stop}
 use Rattle.parser.specs.declared.answer.Answer.{Answer}
 use Rattle.parser.specs.declared.answer.Answer.the-variants.{Node, Nothing, Refused}
-use Rattle.parser.specs.Reader.{then, ifNext}
-use Rattle.parser.specs.Grammar.{stmt, stmts, both, mapO}
+use Rattle.grammar.specs.Reader.{then, ifNext}
+use Rattle.grammar.specs.Grammar.{stmt, stmts, both, mapO}
 use Rattle.parser.specs.Pieces as P
 use Rattle.parser.specs.Pieces.{quietRest, Quiets}
 use Rattle.parser.specs.Quiet.{passedOf}

@@ -18,8 +18,8 @@ use Rattle.parser.specs.declared.see.Seen.{Seen}
 use Rattle.parser.specs.declared.see.Seen.the-variants.{At, Refused as Stop}
 use Rattle.parser.specs.declared.answer.Answer.{Answer}
 use Rattle.parser.specs.declared.answer.Answer.the-variants.{Node, Nothing, Refused}
-use Rattle.parser.specs.Reader.{then, want, ifNext, wantName, commas}
-use Rattle.parser.specs.Grammar.{exp}
+use Rattle.grammar.specs.Reader.{then, want, ifNext, wantName, commas}
+use Rattle.grammar.specs.Grammar.{exp}
 use Rattle.parser.specs.Parts.{only, operand}
 use Rattle.parser.specs.Pieces.{statement, assigned, called, reading, writing}
 use Rattle.parser.specs.Lists.{closed, Ended as Closing, Ends}

@@ -23,8 +23,8 @@ use Rattle.parser.specs.declared.see.Seen.{Seen}
 use Rattle.parser.specs.declared.see.Seen.the-variants.{At, Refused as Stop}
 use Rattle.parser.specs.declared.answer.Answer.{Answer}
 use Rattle.parser.specs.declared.answer.Answer.the-variants.{Node, Nothing, Refused}
-use Rattle.parser.specs.Reader.{then, pure, enter, isMark, want, ifNext, wantName}
-use Rattle.parser.specs.Grammar.{both, mapO, orAbsent, constPart, varPart, argPart, bodyOf, procOf, innerOf, laterOf, program}
+use Rattle.grammar.specs.Reader.{then, pure, enter, isMark, want, ifNext, wantName}
+use Rattle.grammar.specs.Grammar.{both, mapO, orAbsent, constPart, varPart, argPart, bodyOf, procOf, innerOf, laterOf, program}
 use Rattle.parser.specs.Parts.{only}
 use Rattle.parser.specs.Blocks.{Decls, Head, Front, decls, declsNodes, head, headNodes, front, frontNodes, block, quietLater, Silent}
 use Rattle.parser.specs.Quiet.{quietedOf}

@@ -18,7 +18,7 @@ use Rattle.tree.specs.Nodes.{nameNode}
 use Rattle.parser.specs.declared.see.Seen.{Seen}
 use Rattle.parser.specs.declared.see.Seen.the-variants.{At, Refused as Stop}
 use Rattle.parser.specs.declared.answer.Answer.the-variants.{Node}
-use Rattle.parser.specs.Reader.{then, nameIn, numberIn, taking, wantName, wantNumber}
+use Rattle.grammar.specs.Reader.{then, nameIn, numberIn, taking, wantName, wantNumber}
 use Rattle.parser.specs.Parts.{only}
 use Rattle.parser.specs.See.{Sees, whyOf}
 use Rattle.parser.specs.Meets.{Safe, Means, Reads}

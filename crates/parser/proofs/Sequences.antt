@@ -10,7 +10,7 @@ use Rattle.tree.specs.Layout.{Nodes}
 use Rattle.tree.specs.Writing.{join}
 use Rattle.parser.specs.declared.answer.Answer.{Answer}
 use Rattle.parser.specs.declared.answer.Answer.the-variants.{Node, Nothing, Refused}
-use Rattle.parser.specs.Reader.{then}
+use Rattle.grammar.specs.Reader.{then}
 use Rattle.parser.specs.Meets.{Safe, Means, Meets, Reads}
 use Rattle.parser.proofs.Writing.{wrote-more}
 use Rattle.parser.proofs.Answers.{Refuses, refused, grew, made}

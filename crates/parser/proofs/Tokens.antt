@@ -15,7 +15,7 @@ use Rattle.lexer.specs.Meaning.{sees, meaning}
 use Rattle.lexer.specs.Kinds.{kindOf}
 use Rattle.lexer.specs.declared.token.Token.{Token}
 use Rattle.lexer.specs.declared.token.Token.the-variants.{If, Then, Else, While, Do, Const, Var, Procedure, Program, Begin, End, Call, Read, Write, Odd, Add, Sub, Mul, Div, Eq, Lt, Gt, Le, Ge, Ne, EqSign, ParL, ParR, Semicolon, Comma, Identifier, Integer, LexicalError, TooBig, TooMany, EndOfText}
-use Rattle.parser.specs.Reader.{isMark}
+use Rattle.grammar.specs.Reader.{isMark}
 
 -- the kind of a word
 unfoldable pub kindIn : Word → ℕ

@@ -9,7 +9,7 @@ use Rattle.tree.specs.Layout.{NodeKind, Nodes, branch, nodeNo, count}
 use Rattle.tree.specs.Nodes.{expNodes}
 use Rattle.tree.specs.Writing.{join}
 use Rattle.parser.specs.declared.answer.Answer.{Answer}
-use Rattle.parser.specs.Grammar.{exp}
+use Rattle.grammar.specs.Grammar.{exp}
 use Rattle.parser.specs.Parts.{only}
 use Rattle.parser.specs.Lists.{closed}
 use Rattle.parser.specs.Written.{Wrote}

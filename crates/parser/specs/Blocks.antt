@@ -10,8 +10,8 @@ use Rattle.lexer.specs.declared.cursor.Cursor.{Cursor}
 use Rattle.tree.specs.Tree.{Const, Procs, Block}
 use Rattle.tree.specs.Layout.{Nodes, noMore, member}
 use Rattle.tree.specs.Nodes.{nameNode, namesNode, constsNode, procsNode}
-use Rattle.parser.specs.Reader.{pure, _>>=_, _>>_, want, wantName}
-use Rattle.parser.specs.Grammar.{constPart, varPart, argPart, innerOf, laterOf, bodyOf, mapO}
+use Rattle.grammar.specs.Reader.{pure, _>>=_, _>>_, want, wantName}
+use Rattle.grammar.specs.Grammar.{constPart, varPart, argPart, innerOf, laterOf, bodyOf, mapO}
 use Rattle.parser.specs.Parts.{only}
 use Rattle.parser.specs.declared.answer.Answer.{Answer}
 use Rattle.parser.specs.Meets.{Meets}

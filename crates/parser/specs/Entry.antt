@@ -1,23 +1,25 @@
--- What `parse` promises: by 01's order 24, 1 and 2, and then what the parser's definition answers, with the tree's numbers from the first place on.
-use mathlib.Core.Path.{_≡_, refl, sym, ap, _∙_}
+-- What `parse` promises: by 01's order 24, 1 and 2, and then what the parser's definition answers, with the tree's numbers from the first place on and zero behind them.
+use mathlib.Core.Path.{_≡_, refl, sym, ap, _∙_, subst}
 use mathlib.Core.Bool.{Bool, true, false}
-use mathlib.Core.List.{List}
-use Prim.Native.Nat.{ℕ, _≤_, _<_}
-use native.Mathlib.Omega.{arith}
+use mathlib.Core.List.{List, [], _++_, append-assoc}
+use Prim.Native.Nat.{ℕ, _-_, _≤_, _<_}
 use lib.Dec.{leb, ltb}
-use lib.ListN.{length, take, drop}
+use lib.ListN.{length, take, drop, replicate}
+use lib.Seq.{take-append-seam}
 use borrow.Author.Tests.{ltb-true, ltb-false}
 use Rattle.numbers.specs.Limits.{maxSource, treePlaces}
+use Rattle.numbers.specs.Lent.{onto, filled}
 use Rattle.numbers.specs.Bytes.{isAscii, every}
 use Rattle.numbers.specs.Panel.{sourceTooLong, sourceNotAscii, bodyFailedQuietly, roomTooSmall}
 use Rattle.tree.specs.Tree.{Block}
 use Rattle.tree.specs.Layout.{size, enc}
+use Rattle.tree.specs.Reading.{length-enc}
 use Rattle.tree.specs.Nodes.{blockNode}
 use Rattle.parser.specs.declared.answer.Answer.{Answer}
 use Rattle.parser.specs.declared.answer.Answer.the-variants.{Node, Nothing, Refused as Stopped}
 use Rattle.parser.specs.declared.Parsed.{Parsed}
 use Rattle.parser.specs.declared.Parsed.the-variants.{Tree, Refused}
-use Rattle.parser.specs.Grammar.{Parsed as Outcome, tree, refused, parse}
+use Rattle.grammar.specs.Grammar.{Parsed as Outcome, tree, refused, parse}
 
 -- a text's tree, or the first refusal
 unfoldable pub reading : List ℕ → Outcome
@@ -33,42 +35,61 @@ concludedOf (Node e d) = Tree e
 concludedOf (Nothing d) = Refused bodyFailedQuietly
 concludedOf (Stopped n) = Refused n
 
--- a tree whose numbers stand in ys up to `end`, or a refusal
-unfoldable pub Answers : List ℕ → List ℕ → Parsed → Type 0
-Answers src ys (Tree end) = (b : Block) × ((reading src ≡ tree b) × ((end ≡ size (blockNode b)) × (take end ys ≡ enc (blockNode b))))
-Answers src ys (Refused w) = reading src ≡ refused w
+-- the answer to what was read
+abbrev pub answerOf : Outcome → Parsed
+answerOf (tree b) = Tree (size (blockNode b))
+answerOf (refused n) = Refused n
 
--- with too little room nothing changes; otherwise only the room that is asked for
-pub record Parses (src xs ys : List ℕ) (r : Parsed) : Type 0 where
-  pub small : length xs < treePlaces → (r ≡ Refused roomTooSmall) × (ys ≡ xs)
-  pub large : treePlaces ≤ length xs → Answers src ys r
+-- the numbers of the tree, none if it was refused
+abbrev pub numbersOf : Outcome → List ℕ
+numbersOf (tree b) = enc (blockNode b)
+numbersOf (refused n) = []
+
+-- where the tree ends; a refusal has none
+abbrev pub endOf : Parsed → ℕ
+endOf (Tree end) = end
+endOf (Refused n) = 0
+
+-- what was read stands in ys up to its end, and places past the room are as they were
+pub record Reads (src xs ys : List ℕ) (r : Parsed) : Type 0 where
+  pub answer : r ≡ answerOf (reading src)
+  pub stands : take (endOf r) ys ≡ numbersOf (reading src)
+  pub within : endOf r ≤ treePlaces
   pub beyond : drop treePlaces ys ≡ drop treePlaces xs
 
-never : {A : Type 0} → _≡_ {A = ℕ} 0 1 → A
-never e = absurd (omega arith)
+-- with too little room nothing changes; otherwise the room that is asked for holds the tree's numbers, and zero behind them
+pub record Parses (src xs ys : List ℕ) (r : Parsed) : Type 0 where
+  pub small : length xs < treePlaces → (r ≡ Refused roomTooSmall) × (ys ≡ xs)
+  pub large : treePlaces ≤ length xs → (r ≡ answerOf (reading src)) × (ys ≡ onto xs (filled treePlaces 0 (numbersOf (reading src))))
+  pub beyond : drop treePlaces ys ≡ drop treePlaces xs
 
-same-answer : (src ys zs : List ℕ) (r t : Parsed) → Answers src ys r → Answers src zs t → r ≡ t
-unfolding Answers
-same-answer src ys zs (Tree e) (Tree f) p q =
-    let z : p .0 ≡ q .0 = cc (p .1 .0, q .1 .0) in
-    ap Tree (p .1 .1 .0 ∙ ap (λ b. size (blockNode b)) z ∙ sym (q .1 .1 .0))
-same-answer src ys zs (Tree e) (Refused w) p q = never (cc (p .1 .0))
-same-answer src ys zs (Refused w) (Tree f) p q = never (cc (q .1 .0))
-same-answer src ys zs (Refused w) (Refused v) p q = let z : w ≡ v = cc in ap Refused z
-
--- `parse` has one answer
-pub parse-once : (src xs ys zs : List ℕ) (r t : Parsed) → Parses src xs ys r → Parses src xs zs t → r ≡ t
+-- two outcomes of `parse` coincide, whole room included
+pub parse-once : (src xs ys zs : List ℕ) (r t : Parsed) → Parses src xs ys r → Parses src xs zs t → (r ≡ t) × (ys ≡ zs)
 parse-once src xs ys zs r t p q = by (ltb (length xs) treePlaces) refl
   where
-    by : (x : Bool) → ltb (length xs) treePlaces ≡ x → r ≡ t
-    by true e = p .small (ltb-true _ _ e) .0 ∙ sym (q .small (ltb-true _ _ e) .0)
-    by false e = same-answer src ys zs r t (p .large (ltb-false _ _ e)) (q .large (ltb-false _ _ e))
+    by : (x : Bool) → ltb (length xs) treePlaces ≡ x → (r ≡ t) × (ys ≡ zs)
+    by true e =
+        let a = p .small (ltb-true _ _ e) in
+        let b = q .small (ltb-true _ _ e) in
+        (a .0 ∙ sym (b .0), a .1 ∙ sym (b .1))
+    by false e =
+        let a = p .large (ltb-false _ _ e) in
+        let b = q .large (ltb-false _ _ e) in
+        (a .0 ∙ sym (b .0), a .1 ∙ sym (b .1))
 
--- and, where it is a tree, one list of numbers for it
-pub tree-once : (src xs ys zs : List ℕ) (end : ℕ) → treePlaces ≤ length xs → Parses src xs ys (Tree end) → Parses src xs zs (Tree end) → take end ys ≡ take end zs
+-- for whoever reads the tree: a tree was read, and its numbers stand up to its end; or the text was refused
+unfoldable pub Answers : List ℕ → List ℕ → Parsed → Type 0
+Answers src ys (Tree end) = (b : Block) × ((reading src ≡ tree b) × (take end ys ≡ enc (blockNode b)))
+Answers src ys (Refused w) = reading src ≡ refused w
+
+pub answers : {src xs ys : List ℕ} {r : Parsed} → treePlaces ≤ length xs → Parses src xs ys r → Answers src ys r
 unfolding Answers
-tree-once src xs ys zs end l p q =
-    let a = p .large l in
-    let b = q .large l in
-    let z : a .0 ≡ b .0 = cc (a .1 .0, b .1 .0) in
-    a .1 .1 .1 ∙ ap (λ b. enc (blockNode b)) z ∙ sym (b .1 .1 .1)
+answers {src} {xs} {ys} {r} h p = go (reading src) refl (p .large h .0) (p .large h .1)
+  where
+    go : (o : Outcome) → reading src ≡ o → r ≡ answerOf o → ys ≡ onto xs (filled treePlaces 0 (numbersOf o)) → Answers src ys r
+    go (tree b) f e q =
+        let n : size (blockNode b) ≡ length (enc (blockNode b)) = sym (length-enc (blockNode b)) in
+        let z : List ℕ = replicate (treePlaces - length (enc (blockNode b))) 0 in
+        let y : List ℕ = drop (length (filled treePlaces 0 (enc (blockNode b)))) xs in
+        subst (Answers src ys) (sym e) (b, (f, ap (take (size (blockNode b))) (q ∙ append-assoc (enc (blockNode b)) z y) ∙ ap (λ (k : ℕ). take k (enc (blockNode b) ++ (z ++ y))) n ∙ take-append-seam (enc (blockNode b)) (z ++ y)))
+    go (refused w) f e q = subst (Answers src ys) (sym e) f

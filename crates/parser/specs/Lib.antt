@@ -1,7 +1,3 @@
-pub mod Reader
-pub mod Grammar
-pub mod Rows
-pub mod Refusals
 pub mod Written
 pub mod See
 pub mod Meets
@@ -12,6 +8,3 @@ pub mod Pieces
 pub mod Quiet
 pub mod Entry
 pub mod Arguments
-pub mod Gets
-pub mod Depth
-pub mod Names

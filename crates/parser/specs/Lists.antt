@@ -8,7 +8,7 @@ use Rattle.lexer.specs.Stands.{Stands}
 use Rattle.lexer.specs.declared.cursor.Cursor.{Cursor}
 use Rattle.parser.specs.declared.answer.Answer.{Answer}
 use Rattle.parser.specs.declared.answer.Answer.the-variants.{Node, Nothing, Refused}
-use Rattle.parser.specs.Reader.{pure, _>>=_, _>>_, want, commas}
+use Rattle.grammar.specs.Reader.{pure, _>>=_, _>>_, want, commas}
 use Rattle.parser.specs.See.{Took}
 use Rattle.parser.specs.Written.{Seals}
 

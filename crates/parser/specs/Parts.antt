@@ -11,8 +11,8 @@ use Rattle.lexer.specs.Tokens.{Token as Word, token}
 use Rattle.lexer.specs.Meaning.{sees, meaning}
 use Rattle.lexer.specs.declared.token.Token.{Token}
 use Rattle.lexer.specs.Cursor.{Reader, look}
-use Rattle.parser.specs.Reader.{pure, _>>=_, _>>_, want, ifNext}
-use Rattle.parser.specs.Grammar.{exp, term, compareWith, comparisonOf}
+use Rattle.grammar.specs.Reader.{pure, _>>=_, _>>_, want, ifNext}
+use Rattle.grammar.specs.Grammar.{exp, term, compareWith, comparisonOf}
 
 -- one node
 abbrev pub only : Node → Nodes

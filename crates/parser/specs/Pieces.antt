@@ -11,8 +11,8 @@ use Rattle.tree.specs.Tree.{Stmt, assign, while, call, readS, writeS, Stmts}
 use Rattle.tree.specs.Layout.{Nodes, noMore}
 use Rattle.tree.specs.Nodes.{stmtNode, bodyNode}
 use Rattle.parser.specs.declared.answer.Answer.{Answer}
-use Rattle.parser.specs.Reader.{pure, _>>=_, _>>_, want, ifNext, wantName, commas}
-use Rattle.parser.specs.Grammar.{exp, cond, stmt, stmts, ifNode, mapO}
+use Rattle.grammar.specs.Reader.{pure, _>>=_, _>>_, want, ifNext, wantName, commas}
+use Rattle.grammar.specs.Grammar.{exp, cond, stmt, stmts, ifNode, mapO}
 use Rattle.parser.specs.Parts.{only}
 use Rattle.parser.specs.Meets.{Meets}
 

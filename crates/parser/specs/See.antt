@@ -13,7 +13,7 @@ use Rattle.lexer.specs.Stands.{Stands, taken, past, left}
 use Rattle.lexer.specs.declared.cursor.Cursor.{Cursor}
 use Rattle.parser.specs.declared.see.Seen.{Seen}
 use Rattle.parser.specs.declared.see.Seen.the-variants.{At, Refused}
-use Rattle.parser.specs.Reader.{want}
+use Rattle.grammar.specs.Reader.{want}
 
 -- the token w at the place k was looked at by a cursor that stood there as c, and stands there as d
 pub record Saw (src : List ℕ) (c d : Cursor) (k : Place) (w : Word) : Type 0 where

@@ -9,7 +9,7 @@ use lexer::Token;
 use lexer::kinds;
 ghost use Prim.Native.Nat.{_+_, _*_};
 ghost use Rattle.lexer.specs.Stands.{left};
-ghost use Rattle.parser.specs.Grammar.{cond};
+ghost use Rattle.grammar.specs.Grammar.{cond};
 ghost use Rattle.parser.specs.Parts.{condition, odds, compared, Compares};
 ghost use Rattle.parser.specs.Meets.{Room, Reads};
 

@@ -13,7 +13,7 @@ ghost use Prim.Native.Nat.{_+_, _*_};
 ghost use Rattle.lexer.specs.Marks.{semicolonSign};
 ghost use Rattle.lexer.specs.Stands.{left};
 ghost use Rattle.tree.specs.Nodes.{constNode, constsNode, namesNode};
-ghost use Rattle.parser.specs.Grammar.{constDef, constPart, varPart, argPart};
+ghost use Rattle.grammar.specs.Grammar.{constDef, constPart, varPart, argPart};
 ghost use Rattle.parser.specs.Parts.{only};
 ghost use Rattle.parser.specs.Lists.{closed};
 ghost use Rattle.parser.specs.Blocks.{decls, declsNodes};

@@ -9,7 +9,7 @@ use lexer::kinds;
 ghost use mathlib.Core.Path.{_≡_};
 ghost use Prim.Native.Nat.{_+_, _*_};
 ghost use Rattle.lexer.specs.Stands.{left};
-ghost use Rattle.parser.specs.Grammar.{exp, term, factor};
+ghost use Rattle.grammar.specs.Grammar.{exp, term, factor};
 ghost use Rattle.parser.specs.Parts.{operand, negated, signed, bracketed};
 ghost use Rattle.parser.specs.Meets.{Room, Reads};
 ghost use Rattle.parser.specs.See.{operatorOf};

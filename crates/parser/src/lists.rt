@@ -14,7 +14,7 @@ ghost use Rattle.lexer.specs.Marks.{Mark, placeOf};
 ghost use Rattle.lexer.specs.Stands.{left};
 ghost use Rattle.tree.specs.Layout.{NodeKind, nodeNo, literal, branch};
 ghost use Rattle.tree.specs.Nodes.{nameNode, listNodes};
-ghost use Rattle.parser.specs.Reader.{wantName, wantNumber};
+ghost use Rattle.grammar.specs.Reader.{wantName, wantNumber};
 ghost use Rattle.parser.specs.Parts.{only};
 ghost use Rattle.parser.specs.Meets.{Room, Reads};
 ghost use Rattle.parser.specs.Lists.{Ends, closed};

@@ -15,7 +15,7 @@ use lexer::kinds;
 ghost use Prim.Native.Nat.{_+_, _*_};
 ghost use Rattle.lexer.specs.Stands.{left};
 ghost use Rattle.tree.specs.Nodes.{procsNode, blockNode};
-ghost use Rattle.parser.specs.Grammar.{procOf, innerOf, laterOf, program};
+ghost use Rattle.grammar.specs.Grammar.{procOf, innerOf, laterOf, program};
 ghost use Rattle.parser.specs.Parts.{only};
 ghost use Rattle.parser.specs.Blocks.{head, headNodes, front, frontNodes, block, quietLater, Silent};
 ghost use Rattle.parser.specs.Meets.{Room, Reads, Tries};

@@ -16,7 +16,7 @@ use lexer::Token;
 use lexer::kinds;
 ghost use Prim.Native.Nat.{_+_, _*_};
 ghost use Rattle.lexer.specs.Stands.{left};
-ghost use Rattle.parser.specs.Grammar.{stmt, bodyOf, stmts};
+ghost use Rattle.grammar.specs.Grammar.{stmt, bodyOf, stmts};
 ghost use Rattle.parser.specs.Pieces.{statement, body, looped, conditional, elsePart, quietRest, Quiets};
 ghost use Rattle.parser.specs.Meets.{Room, Tries};
 

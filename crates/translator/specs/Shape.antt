@@ -16,7 +16,7 @@ use Rattle.numbers.specs.Bytes.{eqList}
 use Rattle.lexer.specs.Tokens.{Name}
 use Rattle.tree.specs.Tree.{Exp, lit, ref, neg, chain, brackets, Chain, end, link, Cond, isOdd, rel, Stmt, assign, ifThen, ifElse, while, call, body, readS, writeS, Stmts, last, more, Const, Procs, noProcs, proc, Block}
 use Rattle.tree.specs.Named.{Each as NamedEach, NamedExp, NamedChain, NamedCond, NamedStmt, NamedStmts, NamedConst, NamedProcs, Named}
-use Rattle.parser.specs.Depth.{Nest}
+use Rattle.grammar.specs.Depth.{Nest}
 use Rattle.pcode.specs.Operators.{Oper, negate, arithmetic, odd, comparison, write, newLine, read, return}
 use Rattle.pcode.specs.Code.{Op, LIT, LOD, STO, STA, CAL, INT, JMP, JPC, Instr, ins, opr}
 use Rattle.symbols.specs.Symbols.{Kind, const, var, procedure, Scope, mainScope, Row, noRow, findIn, find, allIn, declared, Rows, rows, refuseRows, andRows, oneMore, fresh, constRow, varRow, procRow, constRows, varRows, argRows}

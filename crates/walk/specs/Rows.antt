@@ -8,8 +8,8 @@ use Rattle.numbers.specs.Bytes.{bytes}
 use Rattle.numbers.specs.Arithmetic.{eqZ, fits, checked, quotient, arith, compare}
 use Rattle.numbers.specs.Screen.{decimalOf, decimal, prompt}
 use Rattle.numbers.specs.Line.{line, afterLine, field, magnitude, plus, minus, valueOf, entry}
-use Rattle.parser.specs.Grammar.{Parsed, tree, refused, parse}
-use Rattle.parser.specs.Rows.{reading}
+use Rattle.grammar.specs.Grammar.{Parsed, tree, refused, parse}
+use Rattle.grammar.specs.Rows.{reading}
 use Rattle.symbols.specs.Symbols.{isIn, allIn, sameScope, findIn, find, declared, oneMore, fresh, constRows, varRows}
 use Rattle.walk.specs.Walk.{State, stop, push, walkExp, walkCond, store, loop, put, readLine, walkReads, walkWrites, walkStmt, walkMain, walked, begin, declaredRows, walkBlock}
 

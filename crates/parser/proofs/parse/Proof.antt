@@ -1,75 +1,40 @@
 use borrow.Author.Needs.{needs}
-use mathlib.Core.Path.{sym, _∙_}
 use native.Mathlib.Omega.{arith}
-use lib.ListN.{take}
-use lib.Seq.{length-take-le}
-use Rattle.parser.proofs.Entering.{room-start, parses-small, parses-long, parses-bytes, parses}
+use Rattle.parser.proofs.Entering.{parses-small, parses}
 use borrow.Author.Needs.{needs}
 use Rattle.parser.proofs.parse.Statement.{statement}
 use Rattle.parser.proofs.parse.Tie as tie
 use Rattle.parser.proofs.parse.Reads as reads
 use Rattle.parser.proofs.parse.Lts as lts
-use Rattle.lexer.proofs.cursor.Cursor.new.Reads as new-reads
-use Rattle.parser.proofs.concluded.Reads as concluded-reads
-use Rattle.parser.proofs.is_ascii.Reads as is-ascii-reads
-use Rattle.parser.proofs.procedures.parse_program.Reads as parse-program-reads
+use Rattle.numbers.proofs.room.clear.Reads as clear-reads
+use Rattle.parser.proofs.end_in.Reads as end-in-reads
+use Rattle.parser.proofs.read_tree.Reads as read-tree-reads
 
--- src/lib.rt:66:9
+-- src/lib.rt:102:9
 returns : tie.Need-returns
 returns c = parses-small _ (c .if1 .taken)
 
--- src/lib.rt:69:9
-returns-2 : tie.Need-returns-2
-returns-2 c = parses-long _ (c .before .if1 .left) (c .if2 .taken)
+-- src/lib.rt:104:9
+read-tree-requires : tie.Need-read-tree-requires
+read-tree-requires c κs = c .before .if1 .left
 
--- src/lib.rt:71:8
-is-ascii-requires : tie.Need-is-ascii-requires
-is-ascii-requires c κs = search needs
+-- src/lib.rt:105:17
+end-in-requires : tie.Need-end-in-requires
+end-in-requires c κs = search needs
 
--- src/lib.rt:72:49
-slice-relend-prefix-parse-program : tie.Need-slice-relend-prefix-parse-program
-slice-relend-prefix-parse-program c = search needs
+-- src/lib.rt:105:5
+clear-requires : tie.Need-clear-requires
+clear-requires c κs = (omega (arith, c .end-in .ensures, c .before .before .before .before .read-tree .ensures .within), omega (arith, c .before .before .before .before .read-tree .kept .1 .0, c .before .before .before .before .before .before .if1 .left))
 
--- src/lib.rt:72:49
-slice-aggregate-parse-program : tie.Need-slice-aggregate-parse-program
-slice-aggregate-parse-program c = omega (arith, length-take-le 98400 (c .before .before .before .before .before .before .before .args .tree .now) (c .before .before .before .before .if1 .left))
-
--- src/lib.rt:72:75
-new-requires : tie.Need-new-requires
-new-requires c κs = search needs
-
--- src/lib.rt:72:13
-parse-program-requires : tie.Need-parse-program-requires
-parse-program-requires c κs = rw (c .new .ensures) (room-start (c .before .before .before .before .before .before .before .before .args .text .now) (take 98400 (c .before .before .before .before .before .before .before .before .args .tree .now)) (c .before .before .before .before .if2 .left) (length-take-le 98400 (c .before .before .before .before .before .before .before .before .args .tree .now) (c .before .before .before .before .before .if1 .left)))
-
--- src/lib.rt:73:9
-concluded-requires : tie.Need-concluded-requires
-concluded-requires c κs = search needs
-
--- src/lib.rt:73:9
+-- src/lib.rt:98:1
 same-length : tie.Need-same-length
 same-length c = search needs
 
--- src/lib.rt:73:9
-returns-3 : tie.Need-returns-3
-returns-3 c = rw (c .concluded .ensures) (parses _ (c .before .before .before .before .before .before .before .before .before .before .before .before .args .tree .now) _ (c .before .before .before .before .before .before .before .before .before .if1 .left) (c .before .before .before .parse-program .kept .1 .0 ∙ length-take-le 98400 (c .before .before .before .before .before .before .before .before .before .before .before .before .args .tree .now) (c .before .before .before .before .before .before .before .before .before .if1 .left)) (c .before .before .before .before .before .before .before .before .if2 .left) (sym (c .before .before .before .before .before .before .before .is-ascii .ensures) ∙ c .before .before .before .before .before .before .if3 .taken) _ (rw (c .before .before .before .before .new .ensures) at (c .before .before .before .parse-program .ensures)))
-
--- src/lib.rt:62:1
-returns-4 : tie.Need-returns-4
-returns-4 c = parses-bytes _ (c .before .before .before .if1 .left) (c .before .before .if2 .left) (sym (c .before .is-ascii .ensures) ∙ c .if3 .left)
+-- src/lib.rt:98:1
+returns-2 : tie.Need-returns-2
+returns-2 c = parses _ (c .before .before .before .before .before .before .before .before .before .if1 .left) (c .before .before .before .before .before .before .before .read-tree .kept .1 .0) (c .before .before .before .before .before .before .before .read-tree .ensures) (rw (c .before .before .before .end-in .ensures) at (c .before .before .clear .ensures))
 
 pub parse-spec : {M : Type 1} → statement M
 parse-spec =
     tie.close
-    (tie.spec
-    returns
-    returns-2
-    is-ascii-requires
-    slice-relend-prefix-parse-program
-    slice-aggregate-parse-program
-    new-requires
-    parse-program-requires
-    concluded-requires
-    same-length
-    returns-3
-    returns-4)
+    (tie.spec returns read-tree-requires end-in-requires clear-requires same-length returns-2)

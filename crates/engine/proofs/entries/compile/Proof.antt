@@ -3,7 +3,7 @@ use mathlib.Core.Path.{sym, _∙_}
 use native.Mathlib.Omega.{arith}
 use lib.ListN.{length}
 use borrow.Author.Tests.{not-true, not-false}
-use Rattle.engine.specs.Compile.{codeOf, compile}
+use Rattle.outcomes.specs.Compile.{codeOf, compile}
 use Rattle.engine.specs.Entries.{taken}
 use Rattle.engine.proofs.Compiling.{leaves, roomy, cramped-code, cramped-work, all-long}
 use borrow.Author.Needs.{needs}

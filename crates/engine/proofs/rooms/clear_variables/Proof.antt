@@ -3,8 +3,8 @@ use Prim.Native.Nat.{_≤_, _-_}
 use native.Mathlib.Omega.{arith}
 use mathlib.Core.Path.{ap, _∙_}
 use lib.IntN.{pos}
-use Rattle.numbers.specs.Lent.{onto}
-use Rattle.engine.proofs.Putting.{Put, put-length, filling, filling-none, filling-more, filling-all, filling-whole}
+use Rattle.numbers.specs.Lent.{filling, onto}
+use Rattle.numbers.proofs.Putting.{Put, put-length, filling-none, filling-more, filling-all, filling-whole}
 use Rattle.engine.proofs.rooms.clear_variables.Statement.{statement}
 use Rattle.engine.proofs.rooms.clear_variables.Tie as tie
 use Rattle.engine.proofs.rooms.clear_variables.Reads as reads

@@ -1,7 +1,8 @@
 use Prim.Native.Nat.{_≤_, _-_}
 use native.Mathlib.Omega.{arith}
 use lib.IntN.{negsuc}
-use Rattle.engine.proofs.Putting.{Put, put-length, filling, filling-none, filling-more, filling-all}
+use Rattle.numbers.specs.Lent.{filling}
+use Rattle.numbers.proofs.Putting.{Put, put-length, filling-none, filling-more, filling-all}
 use Rattle.engine.proofs.rooms.fill_kinds.Statement.{statement}
 use Rattle.engine.proofs.rooms.fill_kinds.Tie as tie
 

@@ -6,8 +6,8 @@ use native.Mathlib.Omega.{arith}
 use Rattle.lexer.specs.Marks.{closeSign, placeOf}
 use Rattle.lexer.specs.Stands.{left}
 use Rattle.tree.specs.Nodes.{expNode, listNodes}
-use Rattle.parser.specs.Reader.{then}
-use Rattle.parser.specs.Grammar as G
+use Rattle.grammar.specs.Reader.{then}
+use Rattle.grammar.specs.Grammar as G
 use Rattle.parser.proofs.Answers.{refused, grew, made, room-after, passed, same-left, one-fewer}
 use Rattle.parser.proofs.Loops.{Going, going-start, going-room, going-more, going-refused, going-end}
 use Rattle.parser.proofs.Commas.{rest, member-more, member-refused, comma-stop, comma-turn, comma-end}

@@ -3,7 +3,7 @@ use mathlib.Core.Path.{refl}
 use Rattle.lexer.specs.Marks.{equalSign, unequalSign, lessSign, atLeastSign, greaterSign, atMostSign, placeOf, same, listed}
 use Rattle.lexer.specs.Tokens.{mark}
 use Rattle.lexer.specs.declared.token.Token.the-variants.{Eq, Ne, Lt, Ge, Gt, Le}
-use Rattle.parser.specs.Grammar.{comparisons, comparisonOf}
+use Rattle.grammar.specs.Grammar.{comparisons, comparisonOf}
 use Rattle.parser.specs.Parts.{comparing}
 use Rattle.parser.proofs.Conds.{compares-to, compares-none}
 use borrow.Author.Needs.{needs}

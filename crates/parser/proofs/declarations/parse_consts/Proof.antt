@@ -7,7 +7,7 @@ use Rattle.lexer.specs.Marks.{semicolonSign, placeOf}
 use Rattle.lexer.specs.Stands.{left}
 use Rattle.tree.specs.Layout.{listKind}
 use Rattle.tree.specs.Nodes.{constNode, listNodes}
-use Rattle.parser.specs.Grammar.{constDef}
+use Rattle.grammar.specs.Grammar.{constDef}
 use Rattle.parser.proofs.Answers.{refused, grew, made, room-after, passed, room-at, same-left, one-fewer}
 use Rattle.parser.proofs.Loops.{Going, going-start, going-room, going-more, going-refused, going-end}
 use Rattle.parser.proofs.Commas.{rest, member-more, member-refused, comma-stop, comma-turn, comma-end, list-refused, list-ended}

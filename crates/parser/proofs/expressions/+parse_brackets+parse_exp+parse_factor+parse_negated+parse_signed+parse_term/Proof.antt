@@ -7,7 +7,7 @@ use Rattle.lexer.specs.Marks.{closeSign, placeOf}
 use Rattle.lexer.specs.Stands.{left}
 use Rattle.parser.specs.See.{operatorOf}
 use Rattle.tree.specs.Nodes.{chainNodes}
-use Rattle.parser.specs.Grammar as G
+use Rattle.grammar.specs.Grammar as G
 use Rattle.parser.proofs.Operators.{op-is-none}
 use Rattle.parser.proofs.Answers.{refused, grew, made, room-after, passed, moved, room-at, room-seen, same-left, room-taken, one-fewer, wanted-fewer}
 use Rattle.parser.proofs.Loops.{Going, going-start, going-room, going-more, going-refused, going-end}

@@ -6,7 +6,7 @@ use native.Mathlib.Omega.{arith}
 use Rattle.lexer.specs.Marks.{placeOf}
 use Rattle.lexer.specs.Stands.{left}
 use Rattle.tree.specs.Nodes.{nameNode, listNodes}
-use Rattle.parser.specs.Reader.{wantName}
+use Rattle.grammar.specs.Reader.{wantName}
 use Rattle.parser.proofs.Answers.{refused, grew, made, room-after, passed, room-at, same-left, one-fewer}
 use Rattle.parser.proofs.Loops.{Going, going-start, going-room, going-more, going-refused, going-end}
 use Rattle.parser.proofs.Commas.{rest, member-more, member-refused, comma-stop, comma-turn, comma-end, list-refused, list-ended}

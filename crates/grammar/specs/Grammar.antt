@@ -8,7 +8,7 @@ use Rattle.numbers.specs.Arithmetic.{add, sub, mul, div, Compare, equal, unequa
 use Rattle.lexer.specs.Marks.{Mark, ifWord, thenWord, elseWord, whileWord, doWord, constWord, varWord, procedureWord, programWord, beginWord, endWord, callWord, readWord, writeWord, oddWord, plusSign, minusSign, timesSign, divideSign, openSign, closeSign, equalSign, semicolonSign, lessSign, greaterSign, atMostSign, atLeastSign, unequalSign, becomesSign, same, listed}
 use Rattle.lexer.specs.Tokens.{Name, Token, mark, name, number}
 use Rattle.tree.specs.Tree.{Exp, lit, ref, neg, chain, brackets, Chain, end, link, Cond, isOdd, rel, Stmt, assign, ifThen, ifElse, while, call, body, readS, writeS, Stmts, last, more, Const, Procs, noProcs, proc, Block}
-use Rattle.parser.specs.Reader.{Ans, got, refuse, Reader, pure, fail, _>>=_, _>>_, spent, enter, isMark, look, take, want, ifNext, wantName, wantNumber, commas}
+use Rattle.grammar.specs.Reader.{Ans, got, refuse, Reader, pure, fail, _>>=_, _>>_, spent, enter, isMark, look, take, want, ifNext, wantName, wantNumber, commas}
 
 -- an operand, and then the chain of operators and operands after it
 abbrev pub chained : {A : Type 0} → Reader Exp → Reader Chain → (Exp → Chain → A) → Reader A

@@ -6,7 +6,7 @@ use native.Mathlib.Omega.{arith}
 use native.Mathlib.Numerals.{add-one}
 use lib.ListN.{length, getD, set, take, drop, replicate, length-append, length-drop, length-replicate, getD-replicate, take-append-drop}
 use lib.Seq.{length-take-le, take-append-le, take-all, take-length, getD-append-add}
-use Rattle.numbers.specs.Lent.{onto}
+use Rattle.numbers.specs.Lent.{onto, filling}
 
 module _ {A : Type 0} where
   -- the first k of the new contents are in place
@@ -39,10 +39,6 @@ module _ {A : Type 0} where
   put-all {new} {lent} {xs} {k} p h =
       let e : k ≡ length new = omega (arith, p .most) in
       p .is ∙ ap (λ (n : ℕ). take n new ++ drop n lent) e ∙ ap (λ (l : List A). l ++ drop (length new) lent) (take-length new)
-
-  -- z in the places from `from` up to `to`
-  abbrev pub filling : ℕ → ℕ → A → List A → List A
-  filling from to z lent = take from lent ++ replicate (to - from) z
 
   pub filling-length : (from to : ℕ) (z : A) (lent : List A) → from ≤ to → to ≤ length lent → length (filling from to z lent) ≡ to
   filling-length from to z lent h l = omega (arith, length-append (take from lent) (replicate (to - from) z), length-take-le from lent (omega arith), length-replicate (to - from) z)

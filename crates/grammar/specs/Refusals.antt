@@ -11,8 +11,8 @@ use Rattle.numbers.specs.Arithmetic.{Compare}
 use Rattle.lexer.specs.Marks.{Mark, thenWord, elseWord, doWord, procedureWord, beginWord, endWord, oddWord, plusSign, minusSign, timesSign, divideSign, openSign, closeSign, semicolonSign, commaSign, becomesSign, constWord, varWord, programWord, same}
 use Rattle.lexer.specs.Tokens.{Name, Token, mark, name, number, Found, token, bad, tooBig, endOfText, lexAt}
 use Rattle.tree.specs.Tree.{Exp, Chain, Block}
-use Rattle.parser.specs.Reader.{Cursor, Ans, got, refuse, Reader, then, counted, judge, enter, isMark, nameIn, numberIn, look, take, want, ifNext, taking, wantName, wantNumber, commas}
-use Rattle.parser.specs.Grammar.{chained, exp, terms, term, factors, factor, comparisonOf, compareWith, cond, Start, assignStart, ifStart, whileStart, callStart, bodyStart, readStart, writeStart, startOf, stmt, statement, bodyOf, stmts, constDef, constPart, varPart, argPart, procOf, innerOf, laterOf, program, refused, parsed, fuel, parse}
+use Rattle.grammar.specs.Reader.{Cursor, Ans, got, refuse, Reader, then, counted, judge, enter, isMark, nameIn, numberIn, look, take, want, ifNext, taking, wantName, wantNumber, commas}
+use Rattle.grammar.specs.Grammar.{chained, exp, terms, term, factors, factor, comparisonOf, compareWith, cond, Start, assignStart, ifStart, whileStart, callStart, bodyStart, readStart, writeStart, startOf, stmt, statement, bodyOf, stmts, constDef, constPart, varPart, argPart, procOf, innerOf, laterOf, program, refused, parsed, fuel, parse}
 
 pub data Numbered {A : Type 0} : Ans A → Type 0 where
   isGot : {a : A} {c : Cursor} → Numbered (got a c)

@@ -11,7 +11,7 @@ use Rattle.numbers.specs.Limits.{maxCode, maxVariables, treePlaces, tablePlaces
 use Rattle.numbers.specs.Lent.{holds, onto, filled}
 use Rattle.pcode.specs.Code.{nil, Code, codeFor}
 use Rattle.walk.specs.Walk.{Walked}
-use Rattle.engine.specs.Compile.{Compiled, numberOf, codeOf, compile, walk}
+use Rattle.outcomes.specs.Compile.{Compiled, numberOf, codeOf, compile, walk}
 
 -- the working room: places for the tree, the symbol rows and the code before it is handed out
 pub record Work : Type 0 where

@@ -1,15 +1,15 @@
--- The trees of three sheets.
+-- The trees of five sheets.
 use mathlib.Core.Path.{_≡_, refl}
 use mathlib.Core.List.{List, [], _∷_, _++_}
 use Prim.Native.Nat.{ℕ}
 use Rattle.numbers.specs.Panel.{bodyFailedQuietly}
-use Rattle.numbers.specs.Arithmetic.{equal}
+use Rattle.numbers.specs.Arithmetic.{equal, add, mul}
 use Rattle.numbers.specs.Bytes.{bytes, isBlank, isDigit, isLetter, isWordByte, span, digits}
 use Rattle.lexer.specs.Marks.{placeOf, same, listed, keywords, pairs, singles, spelt}
 use Rattle.lexer.specs.Tokens.{lexAt, lexHere, signAt, numberAt, wordAt, wordFound}
-use Rattle.tree.specs.Tree.{Exp, lit, ref, chain, end, rel, assign, ifThen, last, noProcs}
-use Rattle.parser.specs.Reader.{counted, judge, enter, isMark, nameIn, numberIn, look, take, want, ifNext, taking, wantName, wantNumber, commas}
-use Rattle.parser.specs.Grammar.{parse, tree, refused, parsed, program, procOf, argPart, varPart, constPart, constDef, stmt, starts, startOf, ifNode, mapO, both, cond, compareWith, comparisons, comparisonOf, exp, orAbsent}
+use Rattle.tree.specs.Tree.{Exp, lit, ref, neg, chain, end, link, rel, assign, ifThen, ifElse, last, noProcs}
+use Rattle.grammar.specs.Reader.{counted, judge, enter, isMark, nameIn, numberIn, look, take, want, ifNext, taking, wantName, wantNumber, commas}
+use Rattle.grammar.specs.Grammar.{parse, tree, refused, parsed, program, procOf, argPart, varPart, constPart, constDef, stmt, starts, startOf, ifNode, mapO, both, cond, compareWith, comparisons, comparisonOf, exp, orAbsent}
 
 -- one name for all that a text is read through
 unfoldable pub reading : ℕ
@@ -42,3 +42,25 @@ absorbed : parse (S ++ bytes "begin if x=0 then x:=2 else begin x:=1; end")
     })
 unfolding reading S one
 absorbed = refl
+
+-- `else` goes to the nearest open `if`
+nearest : parse (S ++ bytes "begin if x=0 then if x=1 then x:=2 else x:=3 end")
+    ≡ tree (record {
+      consts = [];
+      vars = record { at = 15; text = bytes "x" } ∷ [];
+      procs = noProcs;
+      main = last (ifThen (rel equal (one (ref (record { at = 27; text = bytes "x" }))) (one (lit 0))) (ifElse (rel equal (one (ref (record { at = 39; text = bytes "x" }))) (one (lit 1))) (assign (record { at = 48; text = bytes "x" }) (one (lit 2))) (assign (record { at = 58; text = bytes "x" }) (one (lit 3)))));
+    })
+unfolding reading S one
+nearest = refl
+
+-- a leading minus negates the whole first term
+negated : parse (S ++ bytes "begin x:=-2*3+1 end")
+    ≡ tree (record {
+      consts = [];
+      vars = record { at = 15; text = bytes "x" } ∷ [];
+      procs = noProcs;
+      main = last (assign (record { at = 24; text = bytes "x" }) (chain (neg (chain (lit 2) (link mul (lit 3) end))) (link add (chain (lit 1) end) end)));
+    })
+unfolding reading S
+negated = refl

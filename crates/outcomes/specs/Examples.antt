@@ -8,9 +8,9 @@ use Rattle.numbers.specs.Bytes.{bytes}
 use Rattle.pcode.specs.Operators.{return}
 use Rattle.pcode.specs.Code.{LIT, LOD, STO, CAL, INT, JMP, Instr, ins, opr}
 use Rattle.machine.specs.Machine.{Ended, runOf}
-use Rattle.engine.specs.Compile.{numberOf, codeOf, compile}
-use Rattle.engine.specs.Computing.{computing}
-use Rattle.engine.specs.Sheets.{S}
+use Rattle.outcomes.specs.Compile.{numberOf, codeOf, compile}
+use Rattle.outcomes.specs.Computing.{computing}
+use Rattle.outcomes.specs.Sheets.{S}
 
 go : List ℕ → List ℕ → Ended
 go t i = runOf (codeOf (compile t)) i 1000 1000

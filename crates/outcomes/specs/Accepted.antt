@@ -12,16 +12,16 @@ use Rattle.numbers.specs.Panel.{sourceTooLong, sourceNotAscii}
 use Rattle.numbers.specs.Limits.{maxSource, maxOpen}
 use Rattle.numbers.specs.Bytes.{isAscii, every}
 use Rattle.tree.specs.Tree.{Block}
-use Rattle.parser.specs.Grammar.{parse, Parsed, tree, refused}
+use Rattle.grammar.specs.Grammar.{parse, Parsed, tree, refused}
 use Rattle.parser.specs.Entry.{reading}
-use Rattle.parser.specs.Depth.{parse-nests}
-use Rattle.parser.specs.Names.{parse-named}
+use Rattle.grammar.specs.Depth.{parse-nests}
+use Rattle.grammar.specs.Names.{parse-named}
 use Rattle.pcode.specs.Code.{Instr}
 use Rattle.symbols.specs.Symbols.{Row, Rows, rows, refuseRows}
 use Rattle.translator.specs.Shape.{Shape, block-shape}
 use Rattle.emission.specs.Pieces.{Out, made, refuse}
 use Rattle.translator.specs.Translate.{Done, finished, failed, withRows, withCode, blockCode}
-use Rattle.engine.specs.Compile.{accepted, notAccepted, translated, fromTree, compile}
+use Rattle.outcomes.specs.Compile.{accepted, notAccepted, translated, fromTree, compile}
 
 -- the tree behind accepted code, and its rows
 pub record Behind (src : List ℕ) (c : List Instr) : Type 0 where

@@ -5,7 +5,7 @@ use Prim.Native.Nat.{ℕ}
 use lib.Dec.{ltb}
 use Rattle.numbers.specs.Limits.{maxOpen}
 use Rattle.numbers.specs.Panel.{tooManyOpen}
-use Rattle.parser.specs.Reader.{Cursor, Ans, got, refuse, Reader, then, pure, fail, enter}
+use Rattle.grammar.specs.Reader.{Cursor, Ans, got, refuse, Reader, then, pure, fail, enter}
 
 -- of what it gets, if it gets anything
 pub data Gets {A : Type 0} (P : A → Type 0) : Ans A → Type 0 where

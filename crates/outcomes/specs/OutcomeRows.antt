@@ -7,9 +7,9 @@ use lib.ListN.{replicate}
 use Rattle.numbers.specs.Panel.{done, bodyFailedQuietly, tooManyInstructions, notAnOperation, roomTooSmall, procedureInTree}
 use Rattle.numbers.specs.Bytes.{bytes}
 use Rattle.pcode.specs.Code.{Code}
-use Rattle.engine.specs.Computing.{computing}
+use Rattle.outcomes.specs.Computing.{computing}
 use Rattle.machine.specs.Outcome.{runLeaves, runOutcome}
-use Rattle.engine.specs.Outcomes.{compileLeaves, compileOutcome, walkLeaves, walkOutcome, Work}
+use Rattle.outcomes.specs.Outcomes.{compileLeaves, compileOutcome, walkLeaves, walkOutcome, Work}
 
 -- n places with 7 in them
 abbrev sevens : ℕ → List ℕ

@@ -6,15 +6,15 @@ use lib.IntN.{pos}
 use lib.ListN.{length, getD}
 use Rattle.numbers.specs.Panel.{done, badToken, bodyFailedQuietly, levelAbove, budgetSpent, placeOutside}
 use Rattle.numbers.specs.Bytes.{bytes}
-use Rattle.parser.specs.Grammar.{Parsed, tree, refused, parse}
+use Rattle.grammar.specs.Grammar.{Parsed, tree, refused, parse}
 use Rattle.numbers.specs.Arithmetic.{equal}
 use Rattle.pcode.specs.Operators.{return, comparison}
 use Rattle.pcode.specs.Code.{LIT, LOD, STO, INT, JMP, JPC, Instr, ins, opr}
 use Rattle.symbols.specs.Symbols.{noRow}
 use Rattle.translator.specs.Translate.{Done, finished, failed, blockCode}
 use Rattle.machine.specs.Machine.{runOf}
-use Rattle.engine.specs.Compile.{accepted, notAccepted, numberOf, codeOf, compile, walk}
-use Rattle.engine.specs.Computing.{computing}
+use Rattle.outcomes.specs.Compile.{accepted, notAccepted, numberOf, codeOf, compile, walk}
+use Rattle.outcomes.specs.Computing.{computing}
 
 -- "`S` is `program p; var x; `"
 unfoldable pub S : List ℕ

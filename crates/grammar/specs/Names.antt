@@ -14,9 +14,9 @@ use Rattle.lexer.specs.Tokens.{Name, Token, mark, name, number, Found, token, b
 use Rattle.lexer.specs.Names.{name-spelt, literal-fits}
 use Rattle.tree.specs.Tree.{Exp, Chain, Cond, Stmt, Stmts, Procs, Block}
 use Rattle.tree.specs.Named.{NameIn, Each, NamedExp, NamedChain, NamedCond, NamedStmt, NamedStmts, NamedConst, NamedProcs, Named}
-use Rattle.parser.specs.Reader.{Cursor, Ans, got, refuse, Reader, counted, judge, isMark, nameIn, numberIn, look, take, want, ifNext, taking, wantName, wantNumber, commas}
-use Rattle.parser.specs.Gets.{Gets, isGot, isNo, bind, on, test, entering}
-use Rattle.parser.specs.Grammar.{chained, exp, terms, term, factors, factor, comparisonOf, compareWith, cond, Start, assignStart, ifStart, whileStart, callStart, bodyStart, readStart, writeStart, starts, startOf, both, mapO, ifNode, orAbsent, stmt, statement, bodyOf, stmts, constDef, constPart, varPart, argPart, procOf, innerOf, laterOf, program, tree, parsed, parse, fuel}
+use Rattle.grammar.specs.Reader.{Cursor, Ans, got, refuse, Reader, counted, judge, isMark, nameIn, numberIn, look, take, want, ifNext, taking, wantName, wantNumber, commas}
+use Rattle.grammar.specs.Gets.{Gets, isGot, isNo, bind, on, test, entering}
+use Rattle.grammar.specs.Grammar.{chained, exp, terms, term, factors, factor, comparisonOf, compareWith, cond, Start, assignStart, ifStart, whileStart, callStart, bodyStart, readStart, writeStart, starts, startOf, both, mapO, ifNode, orAbsent, stmt, statement, bodyOf, stmts, constDef, constPart, varPart, argPart, procOf, innerOf, laterOf, program, tree, parsed, parse, fuel}
 
 module _ (src : List ℕ) where
   -- what a token holds

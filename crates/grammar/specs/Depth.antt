@@ -9,9 +9,9 @@ use Rattle.numbers.specs.Limits.{maxOpen}
 use Rattle.lexer.specs.Marks.{procedureWord, programWord, openSign, semicolonSign}
 use Rattle.lexer.specs.Tokens.{Name}
 use Rattle.tree.specs.Tree.{Stmts, Const, Procs, noProcs, proc, Block}
-use Rattle.parser.specs.Reader.{Cursor, Ans, got, refuse, isMark, look, take, want, ifNext, wantName}
-use Rattle.parser.specs.Gets.{Gets, isGot, isNo, bind, on, test, entering}
-use Rattle.parser.specs.Grammar.{both, mapO, orAbsent, constPart, varPart, argPart, bodyOf, procOf, innerOf, laterOf, program, tree, parsed, parse, fuel}
+use Rattle.grammar.specs.Reader.{Cursor, Ans, got, refuse, isMark, look, take, want, ifNext, wantName}
+use Rattle.grammar.specs.Gets.{Gets, isGot, isNo, bind, on, test, entering}
+use Rattle.grammar.specs.Grammar.{both, mapO, orAbsent, constPart, varPart, argPart, bodyOf, procOf, innerOf, laterOf, program, tree, parsed, parse, fuel}
 
 -- at most d deep
 unfoldable pub Nest : ℕ → Procs → Type 0

@@ -3,7 +3,7 @@ use mathlib.Core.List.{List, []}
 use Prim.Native.Nat.{ℕ}
 use Rattle.numbers.specs.Panel.{done, procedureInTree}
 use Rattle.tree.specs.Tree.{Procs, noProcs, proc}
-use Rattle.parser.specs.Grammar.{parse, Parsed, tree, refused}
+use Rattle.grammar.specs.Grammar.{parse, Parsed, tree, refused}
 use Rattle.parser.specs.Entry.{reading}
 use Rattle.pcode.specs.Code.{Instr}
 use Rattle.translator.specs.Translate.{Done, finished, failed, blockCode}

@@ -1,0 +1,7 @@
+pub mod Reader
+pub mod Grammar
+pub mod Gets
+pub mod Depth
+pub mod Names
+pub mod Refusals
+pub mod Rows
