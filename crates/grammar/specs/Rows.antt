@@ -1,15 +1,16 @@
--- The trees of five sheets.
+-- The trees of sheets: what is accepted, quiet failure, the nearest `if`, a leading minus, and how many constructs may be open.
 use mathlib.Core.Path.{_≡_, refl}
+use mathlib.Core.Bool.{Bool, true, false}
 use mathlib.Core.List.{List, [], _∷_, _++_}
-use Prim.Native.Nat.{ℕ}
-use Rattle.numbers.specs.Panel.{bodyFailedQuietly}
+use Prim.Native.Nat.{ℕ, zero, suc}
+use Rattle.numbers.specs.Panel.{tooManyOpen, bodyFailedQuietly}
 use Rattle.numbers.specs.Arithmetic.{equal, add, mul}
 use Rattle.numbers.specs.Bytes.{bytes, isBlank, isDigit, isLetter, isWordByte, span, digits}
 use Rattle.lexer.specs.Marks.{placeOf, same, listed, keywords, pairs, singles, spelt}
 use Rattle.lexer.specs.Tokens.{lexAt, lexHere, signAt, numberAt, wordAt, wordFound}
 use Rattle.tree.specs.Tree.{Exp, lit, ref, neg, chain, end, link, rel, assign, ifThen, ifElse, last, noProcs}
 use Rattle.grammar.specs.Reader.{counted, judge, enter, isMark, nameIn, numberIn, look, take, want, ifNext, taking, wantName, wantNumber, commas}
-use Rattle.grammar.specs.Grammar.{parse, tree, refused, parsed, program, procOf, argPart, varPart, constPart, constDef, stmt, starts, startOf, ifNode, mapO, both, cond, compareWith, comparisons, comparisonOf, exp, orAbsent}
+use Rattle.grammar.specs.Grammar.{Parsed, parse, tree, refused, parsed, program, procOf, argPart, varPart, constPart, constDef, stmt, starts, startOf, ifNode, mapO, both, cond, compareWith, comparisons, comparisonOf, exp, orAbsent}
 
 -- one name for all that a text is read through
 unfoldable pub reading : ℕ
@@ -64,3 +65,25 @@ negated : parse (S ++ bytes "begin x:=-2*3+1 end")
     })
 unfolding reading S
 negated = refl
+
+-- n times over
+times : ℕ → List ℕ → List ℕ
+times zero l = []
+times (suc n) l = l ++ times n l
+
+-- an assignment within n bodies, and these in the main body
+within : ℕ → List ℕ
+within n = S ++ bytes "begin " ++ times n (bytes "begin ") ++ bytes "x:=1" ++ times n (bytes " end") ++ bytes " end"
+
+isTree : Parsed → Bool
+isTree (tree b) = true
+isTree (refused n) = false
+
+-- 64 constructs may be open at once: the assignment is one of them, the main body is none
+deepest : isTree (parse (within 63)) ≡ true
+unfolding reading S times within isTree
+deepest = refl
+
+too-deep : parse (within 64) ≡ refused tooManyOpen
+unfolding reading S times within
+too-deep = refl

@@ -1,10 +1,9 @@
 -- What looking at a token and requiring a mark come to.
-use mathlib.Core.Path.{_≡_, refl, sym, ap, _∙_}
+use mathlib.Core.Path.{_≡_, sym, ap, _∙_}
 use mathlib.Core.Bool.{Bool, true, false}
 use mathlib.Core.List.{List}
 use Prim.Native.Nat.{ℕ, suc, _≤_, _<_}
-use native.Mathlib.Omega.{arith}
-use lib.Dec.{eqb, ltb}
+use lib.Dec.{eqb}
 use borrow.Author.Tests.{eq-eqb, ne-eqb, lt-ltb, le-ltb}
 use Rattle.numbers.specs.Panel.{tokenMissing, tooManyOpen}
 use Rattle.numbers.specs.Limits.{maxOpen}
@@ -18,7 +17,7 @@ use Rattle.lexer.specs.declared.token.Token.{Token}
 use Rattle.lexer.specs.declared.cursor.Cursor.{Cursor}
 use Rattle.parser.specs.declared.see.Seen.{Seen}
 use Rattle.parser.specs.declared.see.Seen.the-variants.{At, Refused}
-use Rattle.grammar.specs.Reader.{then, fail, isMark, enter, want, ifNext}
+use Rattle.parser.specs.Reader.{then, fail, isMark, enter, want, ifNext}
 use Rattle.parser.specs.See.{Saw, Looked, Sees, Took, Wanted, Wants, whyOf}
 use Rattle.parser.proofs.Tokens.{known, is-mark, shown}
 
