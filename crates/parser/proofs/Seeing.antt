@@ -17,7 +17,7 @@ use Rattle.lexer.specs.declared.token.Token.{Token}
 use Rattle.lexer.specs.declared.cursor.Cursor.{Cursor}
 use Rattle.parser.specs.declared.see.Seen.{Seen}
 use Rattle.parser.specs.declared.see.Seen.the-variants.{At, Refused}
-use Rattle.parser.specs.Reader.{then, fail, isMark, enter, want, ifNext}
+use Rattle.grammar.specs.Reader.{then, fail, isMark, enter, want, ifNext}
 use Rattle.parser.specs.See.{Saw, Looked, Sees, Took, Wanted, Wants, whyOf}
 use Rattle.parser.proofs.Tokens.{known, is-mark, shown}
 
