@@ -1,10 +1,12 @@
--- No refusal of the parser has the number 0.
+-- The numbers of the parser's refusals: from 1 to 8.
 use mathlib.Core.Path.{_≡_, refl}
 use mathlib.Core.Bool.{Bool, true, false}
 use mathlib.Core.List.{List}
 use mathlib.Core.Option.{Option, none, some}
-use Prim.Native.Nat.{ℕ, zero, suc}
-use lib.Dec.{ltb}
+use Prim.Native.Nat.{ℕ, zero, suc, _≤_}
+use native.Mathlib.Omega.{arith}
+use lib.Dec.{ltb, leb}
+use borrow.Author.Tests.{leb-true}
 use Rattle.numbers.specs.Limits.{maxTokens, maxOpen}
 use Rattle.numbers.specs.Panel.{bodyFailedQuietly, tooManyTokens}
 use Rattle.numbers.specs.Arithmetic.{Compare}
@@ -14,9 +16,13 @@ use Rattle.tree.specs.Tree.{Exp, Chain, Block}
 use Rattle.grammar.specs.Reader.{Cursor, Ans, got, refuse, Reader, then, counted, judge, enter, isMark, nameIn, numberIn, look, take, want, ifNext, taking, wantName, wantNumber, commas}
 use Rattle.grammar.specs.Grammar.{chained, exp, terms, term, factors, factor, comparisonOf, compareWith, cond, Start, assignStart, ifStart, whileStart, callStart, bodyStart, readStart, writeStart, startOf, stmt, statement, bodyOf, stmts, constDef, constPart, varPart, argPart, procOf, innerOf, laterOf, program, refused, parsed, fuel, parse}
 
-pub data Numbered {A : Type 0} : Ans A → Type 0 where
+-- a number that a reader refuses with
+abbrev isRefusal : ℕ → Bool
+isRefusal n = elim (ltb 0 n) [ true ↦ leb n tooManyTokens | false ↦ false ]
+
+data Numbered {A : Type 0} : Ans A → Type 0 where
   isGot : {a : A} {c : Cursor} → Numbered (got a c)
-  isNo : {n : ℕ} → ltb 0 n ≡ true → Numbered (refuse n)
+  isNo : {n : ℕ} → isRefusal n ≡ true → Numbered (refuse n)
 
 abbrev Always : {A : Type 0} → Reader A → Type 0
 Always p = (c : Cursor) → Numbered (p c)
@@ -200,13 +206,28 @@ module _ (src : List ℕ) where
   unfolding program
   program-no f c = bind _ (want-no programWord c) λ u c. bind _ (wantName-no c) λ n c. bind _ (want-no semicolonSign c) λ u c. bind _ (constPart-no f c) λ cs c. bind _ (varPart-no f c) λ vs c. bind _ (blocks f .inner-no 0 c) λ ps c. bind _ (all-stmts f .body-no 0 c) λ b c. isGot
 
-parsed-no : (a : Ans (Option Block)) (n : ℕ) → Numbered a → parsed a ≡ refused n → ltb 0 n ≡ true
+parsed-no : (a : Ans (Option Block)) (n : ℕ) → Numbered a → parsed a ≡ refused n → isRefusal n ≡ true
 unfolding parsed
 parsed-no (got none c) n h e = let t : n ≡ bodyFailedQuietly = cc in rw t
 parsed-no (got (some b) c) n h e = cc
 parsed-no (refuse m) n (isNo l) e = let t : m ≡ n = cc in rw t at l
 
+two-tests : (x y : Bool) → elim x [ true ↦ y | false ↦ false ] ≡ true → (x ≡ true) × (y ≡ true)
+two-tests true y e = (refl, e)
+two-tests false y e = (e, cc)
+
+bounds : (n : ℕ) → isRefusal n ≡ true → (ltb 0 n ≡ true) × (leb n tooManyTokens ≡ true)
+bounds n e = two-tests (ltb 0 n) (leb n tooManyTokens) e
+
 -- no refusal of the parser has the number 0
 pub parse-refuses : (src : List ℕ) (n : ℕ) → parse src ≡ refused n → ltb 0 n ≡ true
 unfolding parse
-parse-refuses src n e = parsed-no (program src fuel (record { seen = 0; at = 0 })) n (program-no src fuel _) e
+parse-refuses src n e = bounds n (parsed-no (program src fuel (record { seen = 0; at = 0 })) n (program-no src fuel _) e) .0
+
+-- and none that a reader gives has a number above 8
+pub program-refuses : (src : List ℕ) (f : ℕ) (c : Cursor) (n : ℕ) → program src f c ≡ refuse n → n ≤ tooManyTokens
+program-refuses src f c n e = by (program src f c) (program-no src f c) e
+  where
+    by : (a : Ans (Option Block)) → Numbered a → a ≡ refuse n → n ≤ tooManyTokens
+    by (got v d) h q = absurd (let z : _≡_ {A = ℕ} 0 1 = cc in omega arith)
+    by (refuse m) (isNo l) q = let t : m ≡ n = cc in leb-true _ _ (bounds n (rw t at l) .1)

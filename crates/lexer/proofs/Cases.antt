@@ -3,33 +3,27 @@ use mathlib.Core.Path.{_≡_, refl, sym, _∙_, ap}
 use mathlib.Core.List.{List, [], _∷_}
 use mathlib.Core.Bool.{true, false}
 use mathlib.Core.Option.{Option, none, some}
-use Prim.Native.Nat.{ℕ, zero, suc, _+_, _-_, _≤_, _<_, zero-le}
+use Prim.Native.Nat.{ℕ, zero, suc, _+_, _-_, _≤_, _<_}
 use Prim.Native.Char.{code}
 use native.Mathlib.Nat.{add-zero}
 use native.Mathlib.Numerals.{add-one}
 use native.Mathlib.Omega.{arith}
 use lib.Dec.{eqb}
-use lib.ListN.{length, getD, take, drop, drop-of-length-le, List·getD-eq-default}
+use lib.ListN.{length, getD, take, drop, drop-of-length-le}
 use lib.Seq.{getD-drop, drop-drop, drop-cons}
 use borrow.Author.Tests.{eq-eqb, ne-eqb, lt-ltb, le-ltb}
-use types.Run.{OneOf, miss}
-use denote.Enum.Declared.{tagOf}
-use Rattle.lexer.proofs.token.Token as Tok
 use Rattle.numbers.specs.Limits.{maxTokens}
 use Rattle.numbers.specs.Bytes.{isBlank, isDigit, isLetter, isWordByte, span}
 use Rattle.lexer.specs.Marks.{Mark, ifWord, thenWord, elseWord, whileWord, doWord, constWord, varWord, procedureWord, programWord, beginWord, endWord, callWord, readWord, writeWord, oddWord, plusSign, minusSign, timesSign, divideSign, openSign, closeSign, equalSign, semicolonSign, commaSign, lessSign, greaterSign, atMostSign, atLeastSign, unequalSign, becomesSign, keywords, pairs, singles, spelt}
 use Rattle.lexer.specs.Tokens.{Name, mark, name, Found, token, bad, tooBig, endOfText, Lexed as Reading, upTo, wordFound, wordAt, numberAt, signAt, lexHere, lexAt}
 use Rattle.lexer.specs.Spelling.{tokenOf, named, signOf}
-use Rattle.lexer.specs.Cursor.{Cursor as Place}
-use Rattle.lexer.specs.Meaning.{nameAt, sees, tooMany, meaning, Inside, Shows}
-use Rattle.lexer.specs.Kinds.{kindOf, noKind, wordsOf, holding, tokens, tokenIn, looked, token-held}
-use Rattle.lexer.specs.Stands.{beyond, sight, counting, Holds, placeOf, Looks, Finds}
+use Rattle.lexer.specs.Meaning.{nameAt, Sight, sees, tooMany, meaning, Inside, Shows}
+use Rattle.lexer.specs.Stands.{beyond, Beyond, sight, counting, Looks}
 use Rattle.lexer.specs.Outcomes.{said}
 use Rattle.lexer.specs.declared.token.Token.{Token}
-use Rattle.lexer.specs.declared.token.Token.the-variants.{If, Then, Else, While, Do, Const, Var, Procedure, Program, Begin, End, Call, Read, Write, Odd, Add, Sub, Mul, Div, Eq, Lt, Gt, Le, Ge, Ne, EqSign, ParL, ParR, Semicolon, Comma, Identifier, Integer, LexicalError, TooBig, TooMany, EndOfText}
+use Rattle.lexer.specs.declared.token.Token.the-variants.{Identifier, LexicalError, TooMany, EndOfText}
 use Rattle.lexer.specs.declared.token.Lexed.{Lexed}
 use Rattle.lexer.specs.declared.cursor.Cursor.{Cursor}
-use Rattle.lexer.specs.declared.cursor.Words.{Words}
 use Rattle.lexer.proofs.Runs.{stop, stop-length}
 use Rattle.lexer.proofs.Tables.{two}
 
@@ -158,144 +152,56 @@ module _ (src : List ℕ) (at i : ℕ) (start : i ≡ stop isBlank src at) where
         let f : n ≡ getD (drop (suc i) src) 0 0 = e ∙ rw (add-one) (sym (getD-drop (suc i) src 0 0 ∙ rw add-zero)) in
         rw (here, drop-cons src i 0 inside, l, d, lexHere) (sign-shows src i (getD src i 0) (drop (suc i) src) r (h ∙ ap (signOf i (getD src i 0)) f))
 
--- the variants that hold neither a name nor a literal
-abbrev others : List ℕ
-others = 0 ∷ 1 ∷ 2 ∷ 3 ∷ 4 ∷ 5 ∷ 6 ∷ 7 ∷ 8 ∷ 9 ∷ 10 ∷ 11 ∷ 12 ∷ 13 ∷ 14 ∷ 15 ∷ 16 ∷ 17 ∷ 18 ∷ 19 ∷ 20 ∷ 21 ∷ 22 ∷ 23 ∷ 24 ∷ 25 ∷ 26 ∷ 27 ∷ 28 ∷ 29 ∷ 32 ∷ 33 ∷ 34 ∷ 35 ∷ []
+-- past the last token that may be looked at
+pub at-end : (t : Token) → t ≡ EndOfText → Beyond t EndOfText
+at-end t e = λ src f m i. (ap (λ x. elim x as (λ y. Sight) [ sees f ↦ beyond f | tooMany ↦ tooMany ]) (sym (ap (meaning src) e) ∙ m), λ a n q. never (cc))
 
--- such a token in words
-pub plain-words : (t : Token) (n : ℕ) → OneOf others (tagOf Tok.the-type t) → record { kind = kindOf t; first = 0; second = 0; next = n } ≡ wordsOf t n
-plain-words If n h = refl
-plain-words Then n h = refl
-plain-words Else n h = refl
-plain-words While n h = refl
-plain-words Do n h = refl
-plain-words Const n h = refl
-plain-words Var n h = refl
-plain-words Procedure n h = refl
-plain-words Program n h = refl
-plain-words Begin n h = refl
-plain-words End n h = refl
-plain-words Call n h = refl
-plain-words Read n h = refl
-plain-words Write n h = refl
-plain-words Odd n h = refl
-plain-words Add n h = refl
-plain-words Sub n h = refl
-plain-words Mul n h = refl
-plain-words Div n h = refl
-plain-words Eq n h = refl
-plain-words Lt n h = refl
-plain-words Gt n h = refl
-plain-words Le n h = refl
-plain-words Ge n h = refl
-plain-words Ne n h = refl
-plain-words EqSign n h = refl
-plain-words ParL n h = refl
-plain-words ParR n h = refl
-plain-words Semicolon n h = refl
-plain-words Comma n h = refl
-plain-words (Identifier a l) n h = absurd (miss others 30 tt h)
-plain-words (Integer v) n h = absurd (miss others 31 tt h)
-plain-words LexicalError n h = refl
-plain-words TooBig n h = refl
-plain-words TooMany n h = refl
-plain-words EndOfText n h = refl
+-- n numbers from k on
+abbrev pub from : ℕ → ℕ → List ℕ
+from k zero = []
+from k (suc n) = k ∷ from (suc k) n
 
--- a number is none of those below n
-abbrev None : (n k : ℕ) → Type 0
-None zero k = Unit
-None (suc n) k = None n k × (k ≡ n → ⊥)
-
-none-below : (n k : ℕ) → None n k → n ≤ k
-none-below zero k h = zero-le
-none-below (suc n) k h = let e = none-below n k (h .0) in let d = h .1 in omega arith
-
--- every kind past those of the other tokens is the end of the text
-pub held-last : (k a b : ℕ) → None 35 k → EndOfText ≡ tokenIn k a b
-unfolding tokenIn tokens
-held-last k a b h = sym (List·getD-eq-default (tokens a b) EndOfText (none-below 35 k h))
+pub not-end : (t : Token) → (t ≡ EndOfText → ⊥) → Beyond t TooMany
+not-end t h = λ src f m i. (by src f m i, λ a n q. never (cc))
+  where
+    by : (src : List ℕ) (f : Found) → meaning src t ≡ sees f → Inside src t → tooMany ≡ beyond f
+    by src (token w) m i = refl
+    by src bad m i = refl
+    by src tooBig m i = refl
+    by src endOfText m i = absurd (h (said src t _ m i))
 
 -- a look: again, at one of the tokens that may be looked at, or past the last of them
-pub look-again : (src : List ℕ) (c : Cursor) → c .kind < noKind → Looks src c c
-unfolding looked
-look-again src c h = record { again = λ q. refl; first = λ q. never (let z : true ≡ false = sym (lt-ltb _ _ h) ∙ q in cc) }
+abbrev held : Token → (at count : ℕ) → Cursor
+held t at n = record { token = t; at = at; count = n; looked = true }
 
--- the cursor that holds a token holds it at a place, by what is seen there
-holds : (src : List ℕ) (t : Token) (at n : ℕ) (k : Place) → meaning src t ≡ sight (k .seen) (lexAt src (k .at) .found) → Inside src t → at ≡ lexAt src (k .at) .next → n ≡ counting (k .seen) → Holds src (holding t at n) k
-holds src t at n k m i e q =
-    let h = token-held t in
-    record { is = ap (λ x. holding x at n) (sym h); means = ap (meaning src) h ∙ m; inside = rw h i; next = e; count = q }
+pub look-again : (src : List ℕ) (c : Cursor) → c .looked ≡ true → Looks src c c
+look-again src c e = record { again = λ q. refl; first = λ q. never (let z : true ≡ false = sym e ∙ q in cc) }
 
--- the last token has the last kind
-last-kind : (t : Token) → kindOf t ≡ 35 → t ≡ EndOfText
-last-kind If e = absurd (omega arith)
-last-kind Then e = absurd (omega arith)
-last-kind Else e = absurd (omega arith)
-last-kind While e = absurd (omega arith)
-last-kind Do e = absurd (omega arith)
-last-kind Const e = absurd (omega arith)
-last-kind Var e = absurd (omega arith)
-last-kind Procedure e = absurd (omega arith)
-last-kind Program e = absurd (omega arith)
-last-kind Begin e = absurd (omega arith)
-last-kind End e = absurd (omega arith)
-last-kind Call e = absurd (omega arith)
-last-kind Read e = absurd (omega arith)
-last-kind Write e = absurd (omega arith)
-last-kind Odd e = absurd (omega arith)
-last-kind Add e = absurd (omega arith)
-last-kind Sub e = absurd (omega arith)
-last-kind Mul e = absurd (omega arith)
-last-kind Div e = absurd (omega arith)
-last-kind Eq e = absurd (omega arith)
-last-kind Lt e = absurd (omega arith)
-last-kind Gt e = absurd (omega arith)
-last-kind Le e = absurd (omega arith)
-last-kind Ge e = absurd (omega arith)
-last-kind Ne e = absurd (omega arith)
-last-kind EqSign e = absurd (omega arith)
-last-kind ParL e = absurd (omega arith)
-last-kind ParR e = absurd (omega arith)
-last-kind Semicolon e = absurd (omega arith)
-last-kind Comma e = absurd (omega arith)
-last-kind (Identifier at n) e = absurd (omega arith)
-last-kind (Integer v) e = absurd (omega arith)
-last-kind LexicalError e = absurd (omega arith)
-last-kind TooBig e = absurd (omega arith)
-last-kind TooMany e = absurd (omega arith)
-last-kind EndOfText e = refl
-
-module _ (src : List ℕ) (c : Cursor) (none : noKind ≤ c .kind) where
-  fresh : {r : Cursor} → Holds src r (placeOf c) → Looks src c r
-  unfolding looked
-  fresh h = record { again = λ q. never (let z : true ≡ false = sym q ∙ le-ltb _ _ none in cc); first = λ q. h }
-
-  pub look-few : {w : Words} → c .count < maxTokens → Finds src (c .at) w → Looks src c (record { first = w .first; kind = w .kind; at = w .next; count = c .count + 1; second = w .second })
+module _ (src : List ℕ) (c : Cursor) (fresh : c .looked ≡ false) {l : Lexed} (s : Shows src l (lexAt src (c .at))) where
+  pub look-few : c .count < maxTokens → Looks src c (held (l .token) (l .next) (c .count + 1))
   unfolding sight counting
-  look-few h f =
-      let s = f .shows in
-      rw (f .is) (fresh (holds src _ _ _ _ (s .means ∙ rw (lt-ltb _ _ h, sight)) (s .inside) (s .next) (add-one _ ∙ rw (lt-ltb _ _ h, counting))))
+  look-few h = record {
+    again = λ q. never (let z : true ≡ false = sym q ∙ fresh in cc);
+    first = λ q. record {
+      looked = refl;
+      means = s .means ∙ rw (lt-ltb _ _ h, sight);
+      inside = s .inside;
+      next = s .next;
+      count = add-one _ ∙ rw (lt-ltb _ _ h, counting);
+    };
+  }
 
-  module _ {w : Words} (many : maxTokens ≤ c .count) (f : Finds src (c .at) w) where
-    -- what is looked at there for the token that was found
-    past : (t : Token) → meaning src t ≡ beyond (lexAt src (c .at) .found) → Inside src t → Looks src c (holding t (w .next) (c .count))
-    unfolding sight counting
-    past t m i = fresh (holds src t _ _ _ (m ∙ rw (le-ltb _ _ many, sight)) i (ap (λ (x : Words). x .next) (f .is) ∙ f .shows .next) (rw (le-ltb _ _ many, counting)))
-
-    pub look-end : w .kind ≡ 35 → Looks src c (holding EndOfText (w .next) (c .count))
-    look-end e =
-        let t = last-kind (f .found .token) (sym (ap (λ (x : Words). x .kind) (f .is)) ∙ e) in
-        let q : sees endOfText ≡ sees (lexAt src (c .at) .found) = sym (ap (meaning src) t) ∙ f .shows .means in
-        let z : lexAt src (c .at) .found ≡ endOfText = cc in
-        past EndOfText (rw z) (λ a n x. never (cc))
-
-    pub look-many : (w .kind ≡ 35 → ⊥) → Looks src c (holding TooMany (w .next) (c .count))
-    look-many e = past TooMany (by (lexAt src (c .at) .found) refl) (λ a n x. never (cc))
-      where
-        by : (x : Found) → lexAt src (c .at) .found ≡ x → tooMany ≡ beyond x
-        by (token t) q = refl
-        by bad q = refl
-        by tooBig q = refl
-        by endOfText q =
-            let t : f .found .token ≡ EndOfText = said src _ _ (f .shows .means ∙ ap sees q) (f .shows .inside) in
-            absurd (e (ap (λ (x : Words). x .kind) (f .is) ∙ ap kindOf t))
+  pub look-many : (t : Token) → maxTokens ≤ c .count → Beyond (l .token) t → Looks src c (held t (l .next) (c .count))
+  unfolding sight counting
+  look-many t h b =
+      let p = b src _ (s .means) (s .inside) in
+      record {
+        again = λ q. never (let z : true ≡ false = sym q ∙ fresh in cc);
+        first = λ q. record {
+          looked = refl;
+          means = p .0 ∙ rw (le-ltb _ _ h, sight);
+          inside = p .1;
+          next = s .next;
+          count = rw (le-ltb _ _ h, counting);
+        };
+      }

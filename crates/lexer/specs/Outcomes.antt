@@ -10,7 +10,6 @@ use Rattle.lexer.specs.Tokens.{mark, name, number, token, bad, tooBig, e
 use Rattle.lexer.specs.Cursor.{Cursor as Place}
 use Rattle.lexer.specs.Spelling.{tokenOf}
 use Rattle.lexer.specs.Meaning.{Sight, sees, tooMany, meaning, Inside, Shows}
-use Rattle.lexer.specs.Kinds.{holding, held, looked}
 use Rattle.lexer.specs.Stands.{Holds, Looks}
 use Rattle.lexer.specs.declared.token.Token.{Token}
 use Rattle.lexer.specs.declared.token.Token.the-variants.{If, Then, Else, While, Do, Const, Var, Procedure, Program, Begin, End, Call, Read, Write, Odd, Add, Sub, Mul, Div, Eq, Lt, Gt, Le, Ge, Ne, EqSign, ParL, ParR, Semicolon, Comma, Identifier, Integer, LexicalError, TooBig, TooMany, EndOfText}
@@ -81,18 +80,22 @@ lexed-once src l a b p q =
     let n : a .next ≡ b .next = p .next ∙ sym (q .next) in
     ap (λ x. lexed x (a .next)) t ∙ ap (lexed (b .token)) n
 
+abbrev cursor : Token → (at count : ℕ) → Bool → Cursor
+cursor t at n l = record { token = t; at = at; count = n; looked = l }
+
 -- one cursor holds the token at a place
 held-once : (src : List ℕ) (k : Place) (a b : Cursor) → Holds src a k → Holds src b k → a ≡ b
 held-once src k a b p q =
-    let t : held a ≡ held b = said src _ _ (p .means) (p .inside) ∙ sym (said src _ _ (q .means) (q .inside)) in
+    let t : a .token ≡ b .token = said src _ _ (p .means) (p .inside) ∙ sym (said src _ _ (q .means) (q .inside)) in
     let n : a .at ≡ b .at = p .next ∙ sym (q .next) in
     let m : a .count ≡ b .count = p .count ∙ sym (q .count) in
-    p .is ∙ ap (λ x. holding x (a .at) (a .count)) t ∙ ap (λ x. holding (held b) x (a .count)) n ∙ ap (holding (held b) (b .at)) m ∙ sym (q .is)
+    let l : a .looked ≡ b .looked = p .looked ∙ sym (q .looked) in
+    ap (λ x. cursor x (a .at) (a .count) (a .looked)) t ∙ ap (λ x. cursor (b .token) x (a .count) (a .looked)) n ∙ ap (λ x. cursor (b .token) (b .at) x (a .looked)) m ∙ ap (cursor (b .token) (b .at) (b .count)) l
 
 -- `look` has one answer
 pub look-once : (src : List ℕ) (c a b : Cursor) → Looks src c a → Looks src c b → a ≡ b
-look-once src c a b p q = by (looked c) refl
+look-once src c a b p q = by (c .looked) refl
   where
-    by : (x : Bool) → looked c ≡ x → a ≡ b
+    by : (x : Bool) → c .looked ≡ x → a ≡ b
     by true e = p .again e ∙ sym (q .again e)
     by false e = held-once src _ a b (p .first e) (q .first e)

@@ -1,4 +1,4 @@
-// The kinds of tokens by number: the marks by their places in 01's order of keywords and signs, then the others.
+// The kinds of tokens by number: their places in the order of the Rust, so that the number is the token's own tag.
 ghost use mathlib.Core.Path.{_≡_};
 ghost use Rattle.lexer.specs.Kinds.{kindOf};
 use crate::token::Token;
@@ -41,27 +41,27 @@ pub const TIMES: usize = 17;
 
 pub const DIVIDE: usize = 18;
 
-pub const OPEN: usize = 19;
+pub const EQUAL: usize = 19;
 
-pub const CLOSE: usize = 20;
+pub const LESS: usize = 20;
 
-pub const EQUAL: usize = 21;
+pub const GREATER: usize = 21;
 
-pub const SEMICOLON: usize = 22;
+pub const AT_MOST: usize = 22;
 
-pub const COMMA: usize = 23;
+pub const AT_LEAST: usize = 23;
 
-pub const LESS: usize = 24;
+pub const UNEQUAL: usize = 24;
 
-pub const GREATER: usize = 25;
+pub const BECOMES: usize = 25;
 
-pub const AT_MOST: usize = 26;
+pub const OPEN: usize = 26;
 
-pub const AT_LEAST: usize = 27;
+pub const CLOSE: usize = 27;
 
-pub const UNEQUAL: usize = 28;
+pub const SEMICOLON: usize = 28;
 
-pub const BECOMES: usize = 29;
+pub const COMMA: usize = 29;
 
 pub const NAME: usize = 30;
 
@@ -74,9 +74,6 @@ pub const TOO_BIG: usize = 33;
 pub const TOO_MANY: usize = 34;
 
 pub const END_OF_TEXT: usize = 35;
-
-// No token was looked at.
-pub const NONE: usize = 36;
 
 // The kind of a token.
 pub fn kind_of(t: Token) -> usize
@@ -102,17 +99,17 @@ pub fn kind_of(t: Token) -> usize
         Token::Sub => MINUS,
         Token::Mul => TIMES,
         Token::Div => DIVIDE,
-        Token::ParL => OPEN,
-        Token::ParR => CLOSE,
         Token::Eq => EQUAL,
-        Token::Semicolon => SEMICOLON,
-        Token::Comma => COMMA,
         Token::Lt => LESS,
         Token::Gt => GREATER,
         Token::Le => AT_MOST,
         Token::Ge => AT_LEAST,
         Token::Ne => UNEQUAL,
         Token::EqSign => BECOMES,
+        Token::ParL => OPEN,
+        Token::ParR => CLOSE,
+        Token::Semicolon => SEMICOLON,
+        Token::Comma => COMMA,
         Token::Identifier(_, _) => NAME,
         Token::Integer(_) => LITERAL,
         Token::LexicalError => BAD,

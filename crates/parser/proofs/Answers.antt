@@ -1,21 +1,20 @@
 -- What a caller learns of a callee's answer, and how a refusal goes up.
-use mathlib.Core.Path.{_≡_, refl, sym, ap, _∙_}
+use mathlib.Core.Path.{_≡_}
 use mathlib.Core.List.{List, [], _∷_}
-use mathlib.Core.Option.{Option, none, some}
-use Prim.Native.Nat.{ℕ, zero, suc, _+_, _*_, _≤_, _<_}
+use Prim.Native.Nat.{ℕ, zero, suc, _+_, _*_, _≤_}
 use native.Mathlib.Omega.{arith}
 use lib.ListN.{length}
 use types.Run.{OneOf, miss}
 use denote.Enum.Declared.{tagOf}
-use Rattle.numbers.specs.Limits.{treeShare, treePlaces}
-use Rattle.lexer.specs.Cursor.{Cursor as Place, Ans, got, refuse, Reader}
+use Rattle.numbers.specs.Limits.{treeShare}
+use Rattle.lexer.specs.Cursor.{Cursor as Place, Ans, refuse, Reader}
 use Rattle.lexer.specs.Marks.{Mark}
 use Rattle.lexer.specs.Stands.{Stands, taken, past, left}
 use Rattle.lexer.specs.declared.cursor.Cursor.{Cursor}
 use Rattle.tree.specs.Layout.{Nodes}
 use Rattle.parser.specs.declared.answer.Answer.{Answer}
 use Rattle.parser.specs.declared.answer.Answer.the-variants.{Node, Nothing, Refused}
-use Rattle.parser.specs.Meets.{Room, Grew, Safe, Made, Quiet, Means, Meets, Reads}
+use Rattle.parser.specs.Meets.{Room, Grew, Safe, Made, Means, Meets}
 use Rattle.parser.specs.declared.see.Seen.{Seen}
 use Rattle.parser.specs.declared.see.Seen.the-variants.{At}
 use Rattle.parser.specs.See.{Sees, Wants}

@@ -1,55 +1,44 @@
 -- A statement place by its token, bodies, and the list of a body's statements.
 use mathlib.Core.Path.{_≡_, refl, sym, ap, subst, _∙_}
-use mathlib.Core.Bool.{Bool, true, false}
 use mathlib.Core.List.{List, [], _∷_}
 use mathlib.Core.Option.{Option, none, some}
-use Prim.Native.Nat.{ℕ, zero, suc, _+_, _*_, _≤_, _<_}
+use Prim.Native.Nat.{ℕ, suc, _+_, _*_, _≤_, _<_}
 use native.Mathlib.Omega.{arith}
-use lib.ListN.{length}
 use types.Run.{OneOf, miss}
 use Rattle.numbers.specs.Panel.{tooManyOpen}
-use Rattle.numbers.specs.Limits.{treeShare, maxOpen}
-use Rattle.lexer.specs.Marks.{Mark, ifWord, thenWord, elseWord, whileWord, doWord, constWord, varWord, procedureWord, programWord, beginWord, endWord, callWord, readWord, writeWord, oddWord, plusSign, minusSign, timesSign, divideSign, equalSign, lessSign, greaterSign, atMostSign, atLeastSign, unequalSign, becomesSign, openSign, closeSign, semicolonSign, commaSign, placeOf, same, listed}
-use Rattle.lexer.specs.Tokens.{Name, Token as Word, mark, name, number, token}
-use Rattle.lexer.specs.Cursor.{Cursor as Place, Ans, got, refuse, Reader, look, take}
+use Rattle.numbers.specs.Limits.{maxOpen}
+use Rattle.lexer.specs.Marks.{ifWord, thenWord, elseWord, whileWord, doWord, constWord, varWord, procedureWord, programWord, beginWord, endWord, callWord, readWord, writeWord, oddWord, plusSign, minusSign, timesSign, divideSign, equalSign, lessSign, greaterSign, atMostSign, atLeastSign, unequalSign, becomesSign, openSign, closeSign, semicolonSign, commaSign, placeOf, same, listed}
+use Rattle.lexer.specs.Tokens.{Token as Word, mark, name, number, token}
+use Rattle.lexer.specs.Cursor.{Cursor as Place, got, refuse, Reader, look, take}
 use Rattle.lexer.specs.Meaning.{sees, meaning, nameAt}
-use Rattle.lexer.specs.Kinds.{held}
 use Rattle.lexer.specs.Stands.{Stands, taken, past, left}
 use Rattle.lexer.specs.declared.token.Token.{Token}
 use Rattle.lexer.specs.declared.token.Token.the-variants.{If, While, Call, Begin, Read, Write, Identifier}
 use Rattle.lexer.specs.declared.cursor.Cursor.{Cursor}
-use Rattle.tree.specs.Tree.{Stmt, body, Stmts, last, more}
-use Rattle.tree.specs.Layout.{Nodes, noMore, member, nodeNo, bodyKind, count, sizes}
-use Rattle.tree.specs.Nodes.{stmtNode, stmtNodes, bodyNode}
-use Rattle.tree.specs.Reading.{sizes-least}
-use Rattle.tree.specs.Writing.{join, join-join, count-join}
+use Rattle.tree.specs.Tree.{Stmt, body, Stmts}
+use Rattle.tree.specs.Nodes.{stmtNode}
 use Rattle.parser.specs.declared.see.Seen.{Seen}
 use Rattle.parser.specs.declared.see.Seen.the-variants.{At, Refused as Stop}
 use Rattle.parser.specs.declared.answer.Answer.{Answer}
 use Rattle.parser.specs.declared.answer.Answer.the-variants.{Node, Nothing, Refused}
-use Rattle.grammar.specs.Reader.{then, enter, want, ifNext}
-use Rattle.grammar.specs.Grammar.{Start, assignStart, ifStart, whileStart, callStart, bodyStart, readStart, writeStart, starts, startOf, stmt, statement, bodyOf, stmts, both, mapO}
-use Rattle.parser.specs.Parts.{only}
+use Rattle.grammar.specs.Reader.{then}
+use Rattle.grammar.specs.Grammar.{Start, assignStart, ifStart, whileStart, callStart, bodyStart, readStart, writeStart, starts, startOf, stmt, statement, bodyOf, stmts, mapO}
 use Rattle.parser.specs.Pieces as P
-use Rattle.parser.specs.Pieces.{quietRest, Quiets}
-use Rattle.parser.specs.Quiet.{passedOf}
-use Rattle.parser.specs.Written.{Wrote, Seals}
-use Rattle.parser.specs.See.{Saw, Sees, Wants, whyOf}
-use Rattle.parser.specs.Meets.{Room, Grew, Safe, Made, Quiet, Means, Meets, Tries}
-use Rattle.parser.proofs.Tokens.{tag, tagIn, known}
-use Rattle.parser.proofs.Seeing.{saw, no-look, took, no-mark, next-is, next-is-not, enters, enters-not}
-use Rattle.parser.proofs.Writing.{wrote-none, wrote-more, wrote-kept}
+use Rattle.parser.specs.See.{Sees, Wants, whyOf}
+use Rattle.parser.specs.Meets.{Room, Safe, Made, Quiet, Means, Tries}
+use Rattle.parser.proofs.Tokens.{tag, kindIn, known}
+use Rattle.parser.proofs.Seeing.{saw, no-look, took, no-mark, enters, enters-not}
+use Rattle.parser.proofs.Writing.{wrote-none}
 use Rattle.parser.proofs.Leaves.{looked-at}
 use Rattle.parser.proofs.Answers.{Refuses, by-suc, refused, grew, made, Moved}
-use Rattle.parser.proofs.Tries.{quiet, quiet-left, Quietly, nothing}
-use Rattle.parser.proofs.Choices.{then-same, then-then, next-refused, next-then, next-same}
+use Rattle.parser.proofs.Tries.{quiet, Quietly, nothing}
 
 -- the variants that start no statement
 abbrev pub noStart : List ℕ
 noStart = 1 ∷ 2 ∷ 4 ∷ 5 ∷ 6 ∷ 7 ∷ 8 ∷ 10 ∷ 14 ∷ 15 ∷ 16 ∷ 17 ∷ 18 ∷ 19 ∷ 20 ∷ 21 ∷ 22 ∷ 23 ∷ 24 ∷ 25 ∷ 26 ∷ 27 ∷ 28 ∷ 29 ∷ 31 ∷ 32 ∷ 33 ∷ 34 ∷ 35 ∷ []
 
-no-start : (w : Word) → OneOf noStart (tagIn w) → startOf w ≡ none
-unfolding tagIn startOf listed starts same placeOf
+no-start : (w : Word) → OneOf noStart (kindIn w) → startOf w ≡ none
+unfolding kindIn startOf listed starts same placeOf
 no-start (mark ifWord) h = absurd (miss noStart 0 tt h)
 no-start (mark thenWord) h = refl
 no-start (mark elseWord) h = refl
@@ -105,18 +94,18 @@ module _ (src : List ℕ) (o : ℕ) where
 
     module _ {c d : Cursor} {v : Seen} (h : Sees src c v) (at : v ≡ At d) where
       -- a token that starts no statement
-      pub stmt-none : {t : Token} → t ≡ held d → OneOf noStart (tag t) → {xs : List ℕ} {u : ℕ} → Room src xs u 4 c → Tries P.statement src xs u xs (λ n. stmt src n o) (8 * left c + 3) 8 0 c (Nothing d)
+      pub stmt-none : OneOf noStart (tag (d .token)) → {xs : List ℕ} {u : ℕ} → Room src xs u 4 c → Tries P.statement src xs u xs (λ n. stmt src n o) (8 * left c + 3) 8 0 c (Nothing d)
       unfolding begun
-      stmt-none q i {xs} {u} p =
+      stmt-none i {xs} {u} p =
           nothing (omega (arith, saw h at (p .place) (p .stands) .1 .same))
           (by-suc (λ n. (k : Place) → Stands src c k → Quiet some (λ v. v ≡ none) P.statement src xs u xs d (stmt src n o k)) (8 * left c + 3) (omega arith)
           (λ n l k s.
           let y = saw h at k s in
-          let z = no-start (y .0) (subst (OneOf noStart) (ap tag q ∙ known src (held d) (y .0) (y .1 .means) .1) i) in
+          let z = no-start (y .0) (subst (OneOf noStart) (known src (d .token) (y .0) (y .1 .means) .1) i) in
           record { value = none; empty = refl; at = k; is = stmt-by n k (y .0) none under (y .1 .looks) z; stands = y .1 .stands; wrote = wrote-none (omega (arith, p .room)) }))
 
       -- one that starts the statement st
-      module _ (t : Token) (w : Word) (st : Start) (told : held d ≡ t) (says : meaning src t ≡ sees (token w)) (start : startOf w ≡ some st) where
+      module _ (t : Token) (w : Word) (st : Start) (told : d .token ≡ t) (says : meaning src t ≡ sees (token w)) (start : startOf w ≡ some st) where
         record Begun (n : ℕ) (k : Place) : Type 0 where
           pub fuel : ℕ
           pub enough : 8 * left c + 1 ≤ fuel
@@ -184,32 +173,32 @@ module _ (src : List ℕ) (o : ℕ) where
 
     -- each statement by its first token
     module _ {c d : Cursor} {v : Seen} (h : Sees src c v) (at : v ≡ At d) where
-      pub assign-arm : (a l : ℕ) → held d ≡ Identifier a l → {e : Cursor} → e ≡ taken d → (o′ : ℕ) → o′ ≡ suc o → (n : ℕ) → 8 * left c + 3 ≤ n → (k : Place) → Stands src c k
+      pub assign-arm : (a l : ℕ) → d .token ≡ Identifier a l → {e : Cursor} → e ≡ taken d → (o′ : ℕ) → o′ ≡ suc o → (n : ℕ) → 8 * left c + 3 ≤ n → (k : Place) → Stands src c k
           → Moved src (λ n. P.assigned src (nameAt src a l) n o′) (8 * left e + 3) e (stmt src n o k)
       unfolding statement P.assigned take startOf
       assign-arm a l i = stmt-moved h at (Identifier a l) (name (nameAt src a l)) (assignStart (nameAt src a l)) i refl refl (P.assigned src (nameAt src a l)) (λ n k. refl)
 
-      pub if-arm : held d ≡ If → {e : Cursor} → e ≡ taken d → (o′ : ℕ) → o′ ≡ suc o → (n : ℕ) → 8 * left c + 3 ≤ n → (k : Place) → Stands src c k → Moved src (λ n. P.conditional src n o′) (8 * left e + 3) e (stmt src n o k)
+      pub if-arm : d .token ≡ If → {e : Cursor} → e ≡ taken d → (o′ : ℕ) → o′ ≡ suc o → (n : ℕ) → 8 * left c + 3 ≤ n → (k : Place) → Stands src c k → Moved src (λ n. P.conditional src n o′) (8 * left e + 3) e (stmt src n o k)
       unfolding statement P.conditional take startOf listed starts same placeOf
       if-arm i = stmt-moved h at If (mark ifWord) ifStart i refl refl (P.conditional src) (λ n k. refl)
 
-      pub while-arm : held d ≡ While → {e : Cursor} → e ≡ taken d → (o′ : ℕ) → o′ ≡ suc o → (n : ℕ) → 8 * left c + 3 ≤ n → (k : Place) → Stands src c k → Moved src (λ n. P.looped src n o′) (8 * left e + 3) e (stmt src n o k)
+      pub while-arm : d .token ≡ While → {e : Cursor} → e ≡ taken d → (o′ : ℕ) → o′ ≡ suc o → (n : ℕ) → 8 * left c + 3 ≤ n → (k : Place) → Stands src c k → Moved src (λ n. P.looped src n o′) (8 * left e + 3) e (stmt src n o k)
       unfolding statement P.looped take startOf listed starts same placeOf
       while-arm i = stmt-moved h at While (mark whileWord) whileStart i refl refl (P.looped src) (λ n k. refl)
 
-      pub call-arm : held d ≡ Call → {e : Cursor} → e ≡ taken d → (o′ : ℕ) → o′ ≡ suc o → (n : ℕ) → 8 * left c + 3 ≤ n → (k : Place) → Stands src c k → Moved src (λ n. P.called src n o′) (8 * left e + 3) e (stmt src n o k)
+      pub call-arm : d .token ≡ Call → {e : Cursor} → e ≡ taken d → (o′ : ℕ) → o′ ≡ suc o → (n : ℕ) → 8 * left c + 3 ≤ n → (k : Place) → Stands src c k → Moved src (λ n. P.called src n o′) (8 * left e + 3) e (stmt src n o k)
       unfolding statement P.called take startOf listed starts same placeOf
       call-arm i = stmt-moved h at Call (mark callWord) callStart i refl refl (P.called src) (λ n k. refl)
 
-      pub read-arm : held d ≡ Read → {e : Cursor} → e ≡ taken d → (o′ : ℕ) → o′ ≡ suc o → (n : ℕ) → 8 * left c + 3 ≤ n → (k : Place) → Stands src c k → Moved src (λ n. P.reading src n o′) (8 * left e + 3) e (stmt src n o k)
+      pub read-arm : d .token ≡ Read → {e : Cursor} → e ≡ taken d → (o′ : ℕ) → o′ ≡ suc o → (n : ℕ) → 8 * left c + 3 ≤ n → (k : Place) → Stands src c k → Moved src (λ n. P.reading src n o′) (8 * left e + 3) e (stmt src n o k)
       unfolding statement P.reading take startOf listed starts same placeOf
       read-arm i = stmt-moved h at Read (mark readWord) readStart i refl refl (P.reading src) (λ n k. refl)
 
-      pub write-arm : held d ≡ Write → {e : Cursor} → e ≡ taken d → (o′ : ℕ) → o′ ≡ suc o → (n : ℕ) → 8 * left c + 3 ≤ n → (k : Place) → Stands src c k → Moved src (λ n. P.writing src n o′) (8 * left e + 3) e (stmt src n o k)
+      pub write-arm : d .token ≡ Write → {e : Cursor} → e ≡ taken d → (o′ : ℕ) → o′ ≡ suc o → (n : ℕ) → 8 * left c + 3 ≤ n → (k : Place) → Stands src c k → Moved src (λ n. P.writing src n o′) (8 * left e + 3) e (stmt src n o k)
       unfolding statement P.writing take startOf listed starts same placeOf
       write-arm i = stmt-moved h at Write (mark writeWord) writeStart i refl refl (P.writing src) (λ n k. refl)
 
-      pub body-arm : held d ≡ Begin → (o′ : ℕ) → o′ ≡ suc o → left d ≡ left c → {xs ys : List ℕ} {u : ℕ} (r : Answer) → Tries P.body src xs u ys (λ n. bodyOf src n o′) (8 * left d + 1) 8 0 d r
+      pub body-arm : d .token ≡ Begin → (o′ : ℕ) → o′ ≡ suc o → left d ≡ left c → {xs ys : List ℕ} {u : ℕ} (r : Answer) → Tries P.body src xs u ys (λ n. bodyOf src n o′) (8 * left d + 1) 8 0 d r
           → Tries P.statement src xs u ys (λ n. stmt src n o) (8 * left c + 3) 8 0 c r
       unfolding statement startOf listed starts same placeOf
       body-arm i = stmt-body h at Begin (mark beginWord) bodyStart i refl refl (λ n k. refl)

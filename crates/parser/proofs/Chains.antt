@@ -1,36 +1,36 @@
 -- Operator chains: a first operand, and then operators with their operands. One set of laws for sums and for products.
-use mathlib.Core.Path.{_≡_, refl, sym, ap, _∙_}
+use mathlib.Core.Path.{_≡_, refl, ap, _∙_}
 use mathlib.Core.List.{List}
 use mathlib.Core.Logic.{_⊎_, inl, inr}
-use Prim.Native.Nat.{ℕ, zero, suc, _+_, _*_, _≤_, _<_}
+use Prim.Native.Nat.{ℕ, suc, _+_, _*_, _≤_}
 use native.Mathlib.Omega.{arith}
 use lib.ListN.{length}
-use Rattle.numbers.specs.Limits.{treeShare}
 use Rattle.numbers.specs.Arithmetic.{Arith}
 use Rattle.lexer.specs.Marks.{Mark, placeOf}
-use Rattle.lexer.specs.Cursor.{Cursor as Place, Ans, got, refuse, Reader}
+use Rattle.lexer.specs.Cursor.{Cursor as Place, got, refuse, Reader}
+use Rattle.lexer.specs.Kinds.{kindOf}
 use Rattle.lexer.specs.Stands.{Stands, taken, past, left}
 use Rattle.lexer.specs.declared.cursor.Cursor.{Cursor}
 use Rattle.tree.specs.Tree.{Exp, chain, Chain, end, link}
-use Rattle.tree.specs.Layout.{Node as Knot, Nodes, noMore, member, branch, nodeNo, chainKind, count}
+use Rattle.tree.specs.Layout.{Node as Knot, member, nodeNo, chainKind, count}
 use Rattle.tree.specs.Nodes.{arithNo, expNode, chainNodes}
 use Rattle.tree.specs.Writing.{join}
 use Rattle.parser.specs.declared.see.Seen.{Seen}
 use Rattle.parser.specs.declared.see.Seen.the-variants.{At, Refused as Stop}
 use Rattle.parser.specs.declared.answer.Answer.{Answer}
-use Rattle.parser.specs.declared.answer.Answer.the-variants.{Node, Nothing, Refused}
+use Rattle.parser.specs.declared.answer.Answer.the-variants.{Node}
 use Rattle.grammar.specs.Reader.{then, pure, ifNext}
 use Rattle.grammar.specs.Grammar.{chained}
 use Rattle.parser.specs.Parts.{only, operand}
-use Rattle.parser.specs.Written.{Wrote, Seals}
+use Rattle.parser.specs.Written.{Seals}
 use Rattle.parser.specs.See.{Saw, Sees, whyOf, operatorOf}
-use Rattle.parser.specs.Meets.{Room, Grew, Safe, Made, Means, Meets, Reads}
+use Rattle.parser.specs.Meets.{Safe, Made, Means, Reads}
 use Rattle.parser.proofs.Seeing.{saw, no-look, next-is, next-is-not}
 use Rattle.parser.proofs.Writing.{wrote-none, wrote-more}
 use Rattle.parser.proofs.Operators.{op-is}
 use Rattle.parser.proofs.Answers.{Refuses, by-suc, grew, made}
 use Rattle.parser.proofs.Choices.{next-refused}
-use Rattle.parser.proofs.Loops.{On, Turn, Going, Ended, going-refused, going-end}
+use Rattle.parser.proofs.Loops.{On, Turn, Going, Ended}
 
 -- a link's nodes are its operand's and those after it
 linked-nodes : (a : Arith) (op : ℕ) → op ≡ arithNo a → (e : Exp) (l : Chain) → chainNodes (link a e l) ≡ join (operand op e) (chainNodes l)
@@ -58,7 +58,7 @@ module _ {src : List ℕ} {f first item : ℕ → Reader Exp} {rest : ℕ → Re
 
   module _ {c d : Cursor} {v : Seen} (h : Sees src c v) (at : v ≡ At d) where
     -- no operator: the chain's end
-    pub chain-end : (d .kind ≡ placeOf (ch .ma) → ⊥) × (d .kind ≡ placeOf (ch .mb) → ⊥) → {ys : List ℕ} {e : ℕ} → e ≤ length ys
+    pub chain-end : (kindOf (d .token) ≡ placeOf (ch .ma) → ⊥) × (kindOf (d .token) ≡ placeOf (ch .mb) → ⊥) → {ys : List ℕ} {e : ℕ} → e ≤ length ys
         → (n : ℕ) → 8 * left c + 1 ≤ n → (k : Place) → Stands src c k → Ended rest chainNodes src 1 ys e 0 ys e 0 d (rest n k)
     unfolding chainNodes count
     chain-end o {ys} {e} fits =
@@ -75,7 +75,7 @@ module _ {src : List ℕ} {f first item : ℕ → Reader Exp} {rest : ℕ → Re
         })
 
     -- an operator, with the number op, and after it an operand
-    module _ {op : ℕ} (number : op ≡ operatorOf (placeOf (ch .ma)) (arithNo (ch .aa)) (placeOf (ch .mb)) (arithNo (ch .ab)) (d .kind)) (some : op ≡ 0 → ⊥) {t : Cursor} (took : t ≡ taken d) where
+    module _ {op : ℕ} (number : op ≡ operatorOf (placeOf (ch .ma)) (arithNo (ch .aa)) (placeOf (ch .mb)) (arithNo (ch .ab)) (kindOf (d .token))) (some : op ≡ 0 → ⊥) {t : Cursor} (took : t ≡ taken d) where
       -- which operator it is
       pub record Linked (n : ℕ) (k : Place) : Type 0 where
         pub sign : Arith
@@ -83,12 +83,12 @@ module _ {src : List ℕ} {f first item : ℕ → Reader Exp} {rest : ℕ → Re
         pub is : rest (suc n) k ≡ chained (item n) (rest n) (link sign) (past src k)
 
       linked : (n : ℕ) (k : Place) → Stands src c k → Linked n k
-      linked n k s = go (op-is (placeOf (ch .ma)) (arithNo (ch .aa)) (placeOf (ch .mb)) (arithNo (ch .ab)) (d .kind) op number some)
+      linked n k s = go (op-is (placeOf (ch .ma)) (arithNo (ch .aa)) (placeOf (ch .mb)) (arithNo (ch .ab)) (kindOf (d .token)) op number some)
         where
           p : Saw src c d k (saw h at k s .0)
           p = saw h at k s .1
 
-          go : ((d .kind ≡ placeOf (ch .ma)) × (op ≡ arithNo (ch .aa))) ⊎ ((d .kind ≡ placeOf (ch .ma) → ⊥) × ((d .kind ≡ placeOf (ch .mb)) × (op ≡ arithNo (ch .ab)))) → Linked n k
+          go : ((kindOf (d .token) ≡ placeOf (ch .ma)) × (op ≡ arithNo (ch .aa))) ⊎ ((kindOf (d .token) ≡ placeOf (ch .ma) → ⊥) × ((kindOf (d .token) ≡ placeOf (ch .mb)) × (op ≡ arithNo (ch .ab)))) → Linked n k
           go (inl (e, q)) = record { sign = (ch .aa); no = q; is = ch .again n k ∙ next-is p (ch .ma) _ _ e }
           go (inr (o, (e, q))) = record { sign = (ch .ab); no = q; is = ch .again n k ∙ next-is-not p (ch .ma) _ _ o ∙ next-is p (ch .mb) _ _ e }
 

@@ -1,10 +1,9 @@
 -- A choice by the next mark: what follows it goes into both branches, and a look that is refused refuses it.
-use mathlib.Core.Path.{_≡_, refl, sym, ap, _∙_}
+use mathlib.Core.Path.{_≡_, refl, ap, _∙_}
 use mathlib.Core.Bool.{Bool, true, false}
 use mathlib.Core.List.{List}
 use Prim.Native.Nat.{ℕ}
 use Rattle.lexer.specs.Marks.{Mark}
-use Rattle.lexer.specs.Tokens.{Token as Word}
 use Rattle.lexer.specs.Cursor.{Cursor as Place, Ans, got, refuse, Reader, look, take}
 use Rattle.grammar.specs.Reader.{then, isMark, ifNext}
 use Rattle.parser.proofs.Seeing.{choose}

@@ -5,6 +5,7 @@ use Prim.Native.Nat.{ℕ, suc, _+_, _*_, _≤_}
 use native.Mathlib.Omega.{arith}
 use Rattle.lexer.specs.Marks.{Mark, commaSign, placeOf}
 use Rattle.lexer.specs.Cursor.{Cursor as Place, refuse, Reader}
+use Rattle.lexer.specs.Kinds.{kindOf}
 use Rattle.lexer.specs.Stands.{Stands, taken, past, left}
 use Rattle.lexer.specs.declared.cursor.Cursor.{Cursor}
 use Rattle.tree.specs.Layout.{NodeKind, Node as Knot, branch, nodeNo, count}
@@ -64,7 +65,7 @@ module _ {A : Type 0} (src : List ℕ) (item : Reader A) (node : A → Knot) whe
 
     module _ {g : Cursor} (at : v ≡ At g) where
       -- a comma: the loop goes on
-      pub comma-turn : {spare : ℕ} {t : Cursor} → g .kind ≡ placeOf commaSign → t ≡ taken g → suc (left t) ≡ left d → Grew spare 0 e c f d → Turn rest (listNodes node) src 1 ys e c zs f t
+      pub comma-turn : {spare : ℕ} {t : Cursor} → kindOf (g .token) ≡ placeOf commaSign → t ≡ taken g → suc (left t) ≡ left d → Grew spare 0 e c f d → Turn rest (listNodes node) src 1 ys e c zs f t
       unfolding commas listNodes join count
       comma-turn {spare} {t} i q fw w = record {
         above = w .above;
@@ -89,7 +90,7 @@ module _ {A : Type 0} (src : List ℕ) (item : Reader A) (node : A → Knot) whe
       }
 
       -- no comma: that was the last
-      pub comma-end : (g .kind ≡ placeOf commaSign → ⊥) → (n : ℕ) → 8 * left c + 1 ≤ n → (k : Place) → Stands src c k → Ended rest (listNodes node) src 1 ys e 0 zs f 1 g (rest n k)
+      pub comma-end : (kindOf (g .token) ≡ placeOf commaSign → ⊥) → (n : ℕ) → 8 * left c + 1 ≤ n → (k : Place) → Stands src c k → Ended rest (listNodes node) src 1 ys e 0 zs f 1 g (rest n k)
       unfolding commas listNodes count
       comma-end i =
           by-suc (λ x. (k : Place) → Stands src c k → Ended rest (listNodes node) src 1 ys e 0 zs f 1 g (rest x k)) (8 * left c + 1) (omega arith)

@@ -2,34 +2,34 @@
 use mathlib.Core.Path.{_≡_, refl, sym, ap, subst, _∙_}
 use mathlib.Core.List.{List, [], _∷_}
 use mathlib.Core.Option.{Option, none, some}
-use Prim.Native.Nat.{ℕ, zero, suc, _+_, _*_, _≤_, _<_}
+use Prim.Native.Nat.{ℕ, suc, _+_, _*_, _≤_}
 use native.Mathlib.Omega.{arith}
 use types.Run.{OneOf, miss}
 use Rattle.numbers.specs.Panel.{tokenMissing}
 use Rattle.numbers.specs.Arithmetic.{Compare, equal, unequal, less, atLeast, greater, atMost}
-use Rattle.lexer.specs.Marks.{Mark, ifWord, thenWord, elseWord, whileWord, doWord, constWord, varWord, procedureWord, programWord, beginWord, endWord, callWord, readWord, writeWord, oddWord, plusSign, minusSign, timesSign, divideSign, equalSign, lessSign, greaterSign, atMostSign, atLeastSign, unequalSign, becomesSign, openSign, closeSign, semicolonSign, commaSign, placeOf, same, listed}
+use Rattle.lexer.specs.Marks.{ifWord, thenWord, elseWord, whileWord, doWord, constWord, varWord, procedureWord, programWord, beginWord, endWord, callWord, readWord, writeWord, oddWord, plusSign, minusSign, timesSign, divideSign, equalSign, lessSign, greaterSign, atMostSign, atLeastSign, unequalSign, becomesSign, openSign, closeSign, semicolonSign, commaSign, placeOf, same, listed}
 use Rattle.lexer.specs.Tokens.{Token as Word, mark, name, number, token}
-use Rattle.lexer.specs.Cursor.{Cursor as Place, Ans, got, refuse, Reader, look, take}
+use Rattle.lexer.specs.Cursor.{Cursor as Place, Ans, got, look, take}
 use Rattle.lexer.specs.Meaning.{sees, meaning}
-use Rattle.lexer.specs.Kinds.{held}
+use Rattle.lexer.specs.Kinds.{kindOf}
 use Rattle.lexer.specs.Stands.{Stands, taken, past, left}
 use Rattle.lexer.specs.declared.token.Token.{Token}
 use Rattle.lexer.specs.declared.cursor.Cursor.{Cursor}
 use Rattle.tree.specs.Tree.{Exp, Cond, isOdd, rel}
-use Rattle.tree.specs.Layout.{Nodes, member, branch, nodeNo, oddKind, comparisonKind, count}
+use Rattle.tree.specs.Layout.{member, branch, nodeNo, oddKind, comparisonKind, count}
 use Rattle.tree.specs.Nodes.{compareNo, expNode, condNode}
 use Rattle.tree.specs.Writing.{join}
 use Rattle.parser.specs.declared.see.Seen.{Seen}
 use Rattle.parser.specs.declared.see.Seen.the-variants.{At, Refused as Stop}
 use Rattle.parser.specs.declared.answer.Answer.{Answer}
-use Rattle.parser.specs.declared.answer.Answer.the-variants.{Node, Nothing, Refused}
+use Rattle.parser.specs.declared.answer.Answer.the-variants.{Node}
 use Rattle.grammar.specs.Reader.{then}
 use Rattle.grammar.specs.Grammar.{exp, cond, comparisons, comparisonOf, compareWith}
 use Rattle.parser.specs.Parts.{only, operand, condition, comparing, Compares, odds, compared}
 use Rattle.parser.specs.Written.{Wrote, Seals}
 use Rattle.parser.specs.See.{Sees, whyOf}
-use Rattle.parser.specs.Meets.{Room, Grew, Safe, Made, Means, Meets, Reads}
-use Rattle.parser.proofs.Tokens.{tag, tagIn, known}
+use Rattle.parser.specs.Meets.{Safe, Means, Reads}
+use Rattle.parser.proofs.Tokens.{tag, kindIn, known}
 use Rattle.parser.proofs.Seeing.{saw, no-look, next-is, next-is-not}
 use Rattle.parser.proofs.Writing.{wrote-more}
 use Rattle.parser.proofs.Answers.{Refuses, grew, made, Moved}
@@ -43,8 +43,8 @@ compares-to t t′ v r m q e = record { compares = λ src w h. let z : v ≡ w =
 abbrev pub noComparison : List ℕ
 noComparison = 0 ∷ 1 ∷ 2 ∷ 3 ∷ 4 ∷ 5 ∷ 6 ∷ 7 ∷ 8 ∷ 9 ∷ 10 ∷ 11 ∷ 12 ∷ 13 ∷ 14 ∷ 15 ∷ 16 ∷ 17 ∷ 18 ∷ 25 ∷ 26 ∷ 27 ∷ 28 ∷ 29 ∷ 30 ∷ 31 ∷ 32 ∷ 33 ∷ 34 ∷ 35 ∷ []
 
-no-comparison : (w : Word) → OneOf noComparison (tagIn w) → 0 ≡ comparing w
-unfolding tagIn comparing comparisonOf listed comparisons same placeOf
+no-comparison : (w : Word) → OneOf noComparison (kindIn w) → 0 ≡ comparing w
+unfolding kindIn comparing comparisonOf listed comparisons same placeOf
 no-comparison (mark ifWord) h = refl
 no-comparison (mark thenWord) h = refl
 no-comparison (mark elseWord) h = refl
@@ -126,13 +126,13 @@ module _ (src : List ℕ) (o : ℕ) where
     unfolding compared
     compared-stop e z n l k s = let b = made h q n l k s in ap (then _) (b .is) ∙ ap (then _) (no-look y e z (b .at) (b .stands))
 
-    module _ {t : Cursor} (at : v ≡ At t) {x : Token} (told : x ≡ held t) {no : ℕ} (number : Compares x no) where
+    module _ {t : Cursor} (at : v ≡ At t) {no : ℕ} (number : Compares (t .token) no) where
       pub compared-none : no ≡ 0 → Refuses src (λ n. compared src n o) (8 * left c + 3) c tokenMissing
       unfolding compared comparing compareWith
       compared-none z n l k s =
           let b = made h q n l k s in
           let p = saw y at (b .at) (b .stands) in
-          let x : comparisonOf (p .0) ≡ none = by-none (comparisonOf (p .0)) no (number .compares src (p .0) (ap (meaning src) told ∙ p .1 .means)) z in
+          let x : comparisonOf (p .0) ≡ none = by-none (comparisonOf (p .0)) no (number .compares src (p .0) (p .1 .means)) z in
           ap (then _) (b .is) ∙ ap (then _) (p .1 .looks) ∙ ap (λ (a : Option Compare). compareWith src n o (b .value) a (b .at)) x
 
       -- the sign, and then the second expression
@@ -148,7 +148,7 @@ module _ (src : List ℕ) (o : ℕ) where
         unfolding comparing compareWith take
         after-sign n b k s a is =
             let p = saw y at k s in
-            let x = by-option (comparisonOf (p .0)) no (number .compares src (p .0) (ap (meaning src) told ∙ p .1 .means)) some′ in
+            let x = by-option (comparisonOf (p .0)) no (number .compares src (p .0) (p .1 .means)) some′ in
             record {
               sign = x .0;
               no-is = x .1 .1;
@@ -192,14 +192,14 @@ module _ (src : List ℕ) (o : ℕ) where
   cond-refused h e q n l k s = next-refused src oddWord _ _ k (no-look h e q k s)
 
   module _ {c d : Cursor} {v : Seen} (h : Sees src c v) (at : v ≡ At d) where
-    pub cond-odd : {t : Cursor} → t ≡ taken d → d .kind ≡ placeOf oddWord → (n : ℕ) → 8 * left c + 3 ≤ n → (k : Place) → Stands src c k → Moved src (λ n. odds src n o) (8 * left t + 3) t (cond src n o k)
+    pub cond-odd : {t : Cursor} → t ≡ taken d → kindOf (d .token) ≡ placeOf oddWord → (n : ℕ) → 8 * left c + 3 ≤ n → (k : Place) → Stands src c k → Moved src (λ n. odds src n o) (8 * left t + 3) t (cond src n o k)
     unfolding cond odds
     cond-odd {t} e i n l k s =
         let p = saw h at k s .1 in
         let f : suc (left t) ≡ left c = rw e (p .fewer) in
         record { fuel = n; enough = omega arith; at = past src k; stands = rw e (p .beyond); is = next-is p oddWord _ _ i }
 
-    pub cond-compared : (d .kind ≡ placeOf oddWord → ⊥) → (n : ℕ) → 8 * left c + 3 ≤ n → (k : Place) → Stands src c k → Moved src (λ n. compared src n o) (8 * left d + 3) d (cond src n o k)
+    pub cond-compared : (kindOf (d .token) ≡ placeOf oddWord → ⊥) → (n : ℕ) → 8 * left c + 3 ≤ n → (k : Place) → Stands src c k → Moved src (λ n. compared src n o) (8 * left d + 3) d (cond src n o k)
     unfolding cond compared
     cond-compared i n l k s =
         let p = saw h at k s .1 in

@@ -6,6 +6,7 @@ use native.Mathlib.Omega.{arith}
 use lib.ListN.{length, take as front}
 use Rattle.lexer.specs.Marks.{Mark, constWord, varWord, becomesSign, closeSign, semicolonSign, placeOf}
 use Rattle.lexer.specs.Cursor.{Cursor as Place, Reader}
+use Rattle.lexer.specs.Kinds.{kindOf}
 use Rattle.lexer.specs.Stands.{Stands, taken, past, left}
 use Rattle.lexer.specs.declared.cursor.Cursor.{Cursor}
 use Rattle.tree.specs.Layout.{NodeKind, Node as Knot, noMore, branch, literal, nodeNo, constantKind, listKind, count, size, sizes, enc, encs}
@@ -83,13 +84,13 @@ module _ {A : Type 0} {src : List ℕ} {m : Mark} {more part : ℕ → Reader (L
   part-stop h e q n l k s = is .whole n k ∙ next-refused src m _ _ k (no-look h e q k s)
 
   module _ {c d : Cursor} {v : Seen} (h : Sees src c v) (at : v ≡ At d) where
-    pub part-there : {t : Cursor} → t ≡ taken d → d .kind ≡ placeOf m → (n : ℕ) → 8 * left c + 1 ≤ n → (k : Place) → Stands src c k → Moved src more (8 * left t + 1) t (part n k)
+    pub part-there : {t : Cursor} → t ≡ taken d → kindOf (d .token) ≡ placeOf m → (n : ℕ) → 8 * left c + 1 ≤ n → (k : Place) → Stands src c k → Moved src more (8 * left t + 1) t (part n k)
     part-there {t} e i n l k s =
         let p = saw h at k s .1 in
         let f : suc (left t) ≡ left c = rw e (p .fewer) in
         record { fuel = n; enough = omega arith; at = past src k; stands = rw e (p .beyond); is = is .whole n k ∙ next-is p m _ _ i }
 
-    pub part-none : {xs ys : List ℕ} {u e : ℕ} → (d .kind ≡ placeOf m → ⊥) → left d ≡ left c → u ≤ length xs → e ≡ u + 4 → front (u + 4) ys ≡ front u xs ++ (nodeNo listKind ∷ 0 ∷ 0 ∷ 0 ∷ [])
+    pub part-none : {xs ys : List ℕ} {u e : ℕ} → (kindOf (d .token) ≡ placeOf m → ⊥) → left d ≡ left c → u ≤ length xs → e ≡ u + 4 → front (u + 4) ys ≡ front u xs ++ (nodeNo listKind ∷ 0 ∷ 0 ∷ 0 ∷ [])
         → Reads (λ l. only (branch listKind 0 (listNodes node l))) src xs u ys part (8 * left c + 1) 0 4 c (Node e d)
     unfolding Safe Means listNodes
     part-none o f fits e l = record {
@@ -123,13 +124,13 @@ module _ {src : List ℕ} where
   args-stop h e q n l k s = next-refused src closeSign _ _ k (no-look h e q k s)
 
   module _ {c d : Cursor} {v : Seen} (h : Sees src c v) (at : v ≡ At d) where
-    pub args-there : (d .kind ≡ placeOf closeSign → ⊥) → (n : ℕ) → 8 * left c + 1 ≤ n → (k : Place) → Stands src c k → Moved src (closed src closeSign (wantName src)) (8 * left d + 1) d (argPart src n k)
+    pub args-there : (kindOf (d .token) ≡ placeOf closeSign → ⊥) → (n : ℕ) → 8 * left c + 1 ≤ n → (k : Place) → Stands src c k → Moved src (closed src closeSign (wantName src)) (8 * left d + 1) d (argPart src n k)
     unfolding argPart
     args-there i n l k s =
         let p = saw h at k s .1 in
         record { fuel = n; enough = omega (arith, p .same); at = k; stands = p .stands; is = next-is-not p closeSign _ _ i }
 
-    pub args-none : {xs ys : List ℕ} {u e : ℕ} {t : Cursor} → t ≡ taken d → d .kind ≡ placeOf closeSign → suc (left t) ≡ left c → u ≤ length xs → e ≡ u + 4 → front (u + 4) ys ≡ front u xs ++ (nodeNo listKind ∷ 0 ∷ 0 ∷ 0 ∷ [])
+    pub args-none : {xs ys : List ℕ} {u e : ℕ} {t : Cursor} → t ≡ taken d → kindOf (d .token) ≡ placeOf closeSign → suc (left t) ≡ left c → u ≤ length xs → e ≡ u + 4 → front (u + 4) ys ≡ front u xs ++ (nodeNo listKind ∷ 0 ∷ 0 ∷ 0 ∷ [])
         → Reads (λ ns. only (namesNode ns)) src xs u ys (λ n. argPart src n) (8 * left c + 1) 8 0 c (Node e t)
     unfolding argPart Safe Means listNodes
     args-none {xs} {ys} {u} {e} {t} z i f fits q l = record {

@@ -2,32 +2,30 @@
 use mathlib.Core.Path.{_≡_, refl, sym, ap, _∙_}
 use mathlib.Core.Bool.{Bool, true, false, _&&_}
 use mathlib.Core.List.{List, [], _∷_, _++_}
-use mathlib.Core.Option.{Option, none, some}
-use Prim.Native.Nat.{ℕ, suc, _+_, _-_, _*_, _≤_, _<_}
+use Prim.Native.Nat.{ℕ, _+_, _-_, _*_, _≤_, _<_}
 use native.Mathlib.Numerals.{add-one}
 use native.Mathlib.Omega.{arith}
-use lib.Dec.{leb, ltb}
 use lib.ListN.{length, getD, take, drop, replicate, length-append, length-replicate, drop-of-length-le}
 use lib.Seq.{drop-cons, take-append-le, length-take-le, drop-at}
 use borrow.Author.Tests.{le-leb, lt-leb, le-ltb, lt-ltb}
-use Rattle.numbers.specs.Limits.{maxSource, treePlaces, maxTokens}
+use Rattle.numbers.specs.Limits.{maxSource, treePlaces}
 use Rattle.numbers.specs.Lent.{onto, filled, filling}
 use Rattle.numbers.specs.Bytes.{isAscii, every}
-use Rattle.numbers.specs.Panel.{sourceTooLong, sourceNotAscii, bodyFailedQuietly, roomTooSmall}
-use Rattle.lexer.specs.Cursor.{Cursor as Place, Ans, got, refuse}
-use Rattle.lexer.specs.Kinds.{looked}
-use Rattle.lexer.specs.Stands.{Stands, start, start-stands, left}
+use Rattle.numbers.specs.Panel.{sourceTooLong, sourceNotAscii, roomTooSmall}
+use Rattle.lexer.specs.Cursor.{got}
+use Rattle.lexer.specs.Stands.{start, start-stands, left}
 use Rattle.tree.specs.Tree.{Block}
-use Rattle.tree.specs.Layout.{noMore, member, size, sizes, enc, encs}
+use Rattle.tree.specs.Layout.{size, sizes, enc, encs}
 use Rattle.tree.specs.Nodes.{blockNode}
 use Rattle.parser.specs.declared.answer.Answer.{Answer}
 use Rattle.parser.specs.declared.answer.Answer.the-variants.{Node, Nothing, Refused as Stopped}
 use Rattle.parser.specs.declared.Parsed.{Parsed}
 use Rattle.parser.specs.declared.Parsed.the-variants.{Tree, Refused}
 use Rattle.grammar.specs.Grammar.{tree, refused, parsed, parse, program, fuel}
+use Rattle.grammar.specs.Refusals.{program-refuses}
 use Rattle.parser.specs.Parts.{only}
 use Rattle.parser.specs.Meets.{Room, Safe, Means, Tries}
-use Rattle.parser.specs.Entry.{reading, concludedOf, answerOf, numbersOf, endOf, Reads, Parses}
+use Rattle.parser.specs.Entry.{reading, Numbered, concludedOf, answerOf, numbersOf, endOf, Reads, Parses}
 
 append-nil : (l : List ℕ) → l ++ [] ≡ l
 append-nil [] = refl
@@ -65,7 +63,7 @@ Concludes src ys (Refused w) = reading src ≡ refused w
 
 -- the room at the start
 pub room-start : (src xs : List ℕ) → length src ≤ maxSource → length xs ≡ treePlaces → Room src xs 0 20 start
-unfolding left looked
+unfolding left
 room-start src xs h l = record { place = record { seen = 0; at = 0 }; stands = start-stands src; short = h; small = omega arith; room = omega arith }
 
 module _ (src : List ℕ) where
@@ -91,10 +89,17 @@ module _ (src : List ℕ) where
   pub reads-bytes : {xs : List ℕ} → length src ≤ maxSource → every isAscii src ≡ false → Reads src xs xs (Refused sourceNotAscii)
   reads-bytes h e = refusing sourceNotAscii (not-ascii h e) refl
 
+  -- the number of a reader's refusal
+  pub numbered : {xs ys : List ℕ} (r : Answer) → Tries (λ b. only (blockNode b)) src xs 0 ys (λ n. program src n) (8 * left start) 0 16 start r → Numbered r
+  unfolding Means left
+  numbered (Node e d) h = tt
+  numbered (Nothing d) h = tt
+  numbered (Stopped w) h = omega (arith, program-refuses src fuel (record { seen = 0; at = 0 }) w (h .means fuel (omega arith) (record { seen = 0; at = 0 }) (start-stands src)))
+
   -- the part that was lent, with what stands after it
   module _ (xs ys : List ℕ) (lent : length ys ≡ treePlaces) (short : length src ≤ maxSource) (bytes : every isAscii src ≡ true) where
     concludes : (r : Answer) → Tries (λ b. only (blockNode b)) src (take treePlaces xs) 0 ys (λ n. program src n) (8 * left start) 0 16 start r → Concludes src (ys ++ drop treePlaces xs) (concludedOf r)
-    unfolding Concludes Safe Means parse parsed left looked sizes encs
+    unfolding Concludes Safe Means parse parsed left sizes encs
     concludes (Node e d) h =
         let b = h .means fuel (omega arith) (record { seen = 0; at = 0 }) (start-stands src) in
         let w = b .wrote in

@@ -1,8 +1,8 @@
 -- Expressions: their definition as a chain, and the readers that are no chain.
 use mathlib.Core.Path.{_≡_, refl, sym, ap, subst, _∙_}
-use mathlib.Core.Bool.{Bool, true, false}
+use mathlib.Core.Bool.{Bool, false}
 use mathlib.Core.List.{List, _++_}
-use Prim.Native.Nat.{ℕ, zero, suc, _+_, _*_, _≤_, _<_}
+use Prim.Native.Nat.{ℕ, suc, _+_, _*_, _≤_, _<_}
 use native.Mathlib.Omega.{arith}
 use lib.ListN.{length, take as front}
 use types.Run.{OneOf}
@@ -10,28 +10,27 @@ use Rattle.numbers.specs.Panel.{tokenMissing, tooManyOpen}
 use Rattle.numbers.specs.Limits.{maxOpen}
 use Rattle.numbers.specs.Arithmetic.{add, sub, mul, div}
 use Rattle.lexer.specs.Marks.{Mark, plusSign, minusSign, timesSign, divideSign, openSign, closeSign, placeOf, same}
-use Rattle.lexer.specs.Cursor.{Cursor as Place, Ans, got, refuse, Reader, look, take}
+use Rattle.lexer.specs.Cursor.{Cursor as Place, got, refuse, Reader, look, take}
 use Rattle.lexer.specs.Tokens.{Name, Token as Word, mark, name, number}
-use Rattle.lexer.specs.Kinds.{held}
+use Rattle.lexer.specs.Kinds.{kindOf}
 use Rattle.lexer.specs.Stands.{Stands, taken, past, left}
 use Rattle.lexer.specs.Meaning.{nameAt}
-use Rattle.lexer.specs.declared.token.Token.{Token}
 use Rattle.lexer.specs.declared.token.Token.the-variants.{ParL, Identifier, Integer}
 use Rattle.lexer.specs.declared.cursor.Cursor.{Cursor}
-use Rattle.tree.specs.Tree.{Exp, lit, ref, neg, chain, Chain, link, end, brackets}
+use Rattle.tree.specs.Tree.{Exp, lit, ref, neg, chain, link, end, brackets}
 use Rattle.tree.specs.Layout.{word, literal, enc, nodeNo, negKind, bracketsKind, count}
 use Rattle.tree.specs.Nodes.{expNode}
 use Rattle.parser.specs.declared.see.Seen.{Seen}
 use Rattle.parser.specs.declared.see.Seen.the-variants.{At, Refused as Stop}
 use Rattle.parser.specs.declared.answer.Answer.{Answer}
-use Rattle.parser.specs.declared.answer.Answer.the-variants.{Node, Nothing, Refused}
+use Rattle.parser.specs.declared.answer.Answer.the-variants.{Node}
 use Rattle.grammar.specs.Reader.{then, pure, fail, enter, want, ifNext}
 use Rattle.grammar.specs.Grammar.{chained, exp, terms, term, factors, factor}
 use Rattle.parser.specs.Parts.{operand, negated, signed, bracketed}
-use Rattle.parser.specs.Written.{Wrote, Seals}
-use Rattle.parser.specs.See.{Saw, Sees, Wants, whyOf}
-use Rattle.parser.specs.Meets.{Room, Grew, Safe, Made, Means, Meets, Reads}
-use Rattle.parser.proofs.Tokens.{tag, tagIn, known, noFactor, no-factor}
+use Rattle.parser.specs.Written.{Seals}
+use Rattle.parser.specs.See.{Sees, Wants, whyOf}
+use Rattle.parser.specs.Meets.{Safe, Made, Means, Reads}
+use Rattle.parser.proofs.Tokens.{tag, known, noFactor, no-factor}
 use Rattle.parser.proofs.Seeing.{choose, saw, no-look, took, no-mark, next-is, next-is-not, enters, enters-not}
 use Rattle.parser.proofs.Leaves.{looked-at, literal-of, wrote-name, wrote-number, leaf-grew}
 use Rattle.parser.proofs.Chains.{Chaining}
@@ -96,22 +95,22 @@ module _ (src : List ℕ) (o : ℕ) where
   signed-refused h e q n l k s = next-refused src plusSign _ _ k (no-look h e q k s)
 
   module _ {c d : Cursor} {v : Seen} (h : Sees src c v) (at : v ≡ At d) where
-    pub signed-plus : {t : Cursor} → t ≡ taken d → d .kind ≡ placeOf plusSign → (n : ℕ) → 8 * left c + 2 ≤ n → (k : Place) → Stands src c k → Moved src (λ n. term src n o) (8 * left t + 2) t (signed src n o k)
+    pub signed-plus : {t : Cursor} → t ≡ taken d → kindOf (d .token) ≡ placeOf plusSign → (n : ℕ) → 8 * left c + 2 ≤ n → (k : Place) → Stands src c k → Moved src (λ n. term src n o) (8 * left t + 2) t (signed src n o k)
     unfolding signed
     signed-plus {t} e i n l k s =
         let p = saw h at k s .1 in
         let f : suc (left t) ≡ left c = rw e (p .fewer) in
         record { fuel = n; enough = omega arith; at = past src k; stands = rw e (p .beyond); is = next-is p plusSign _ _ i }
 
-    module _ (other : d .kind ≡ placeOf plusSign → ⊥) where
-      pub signed-minus : {t : Cursor} → t ≡ taken d → d .kind ≡ placeOf minusSign → (n : ℕ) → 8 * left c + 2 ≤ n → (k : Place) → Stands src c k → Moved src (λ n. negated src n o) (8 * left t + 2) t (signed src n o k)
+    module _ (other : kindOf (d .token) ≡ placeOf plusSign → ⊥) where
+      pub signed-minus : {t : Cursor} → t ≡ taken d → kindOf (d .token) ≡ placeOf minusSign → (n : ℕ) → 8 * left c + 2 ≤ n → (k : Place) → Stands src c k → Moved src (λ n. negated src n o) (8 * left t + 2) t (signed src n o k)
       unfolding signed
       signed-minus {t} e i n l k s =
           let p = saw h at k s .1 in
           let f : suc (left t) ≡ left c = rw e (p .fewer) in
           record { fuel = n; enough = omega arith; at = past src k; stands = rw e (p .beyond); is = next-is-not p plusSign _ _ other ∙ next-is p minusSign _ _ i }
 
-      pub signed-none : (d .kind ≡ placeOf minusSign → ⊥) → (n : ℕ) → 8 * left c + 2 ≤ n → (k : Place) → Stands src c k → Moved src (λ n. term src n o) (8 * left d + 2) d (signed src n o k)
+      pub signed-none : (kindOf (d .token) ≡ placeOf minusSign → ⊥) → (n : ℕ) → 8 * left c + 2 ≤ n → (k : Place) → Stands src c k → Moved src (λ n. term src n o) (8 * left d + 2) d (signed src n o k)
       unfolding signed
       signed-none i n l k s =
           let p = saw h at k s .1 in
@@ -171,16 +170,16 @@ module _ (src : List ℕ) (o : ℕ) where
 
   module _ {c d : Cursor} {v : Seen} (h : Sees src c v) (at : v ≡ At d) where
     -- a token that starts no factor
-    pub factor-other : {t : Token} → t ≡ held d → OneOf noFactor (tag t) → Refuses src (λ n. factor src n o) (8 * left c + 1) c tokenMissing
-    factor-other q i =
+    pub factor-other : OneOf noFactor (tag (d .token)) → Refuses src (λ n. factor src n o) (8 * left c + 1) c tokenMissing
+    factor-other i =
         by-suc (λ x. (k : Place) → Stands src c k → factor src x o k ≡ refuse tokenMissing) (8 * left c + 1) (omega arith)
         (λ x l k s.
         let p = saw h at k s in
-        let z = no-factor (p .0) (subst (OneOf noFactor) (ap tag q ∙ known src (held d) (p .0) (p .1 .means) .1) i) in
+        let z = no-factor (p .0) (subst (OneOf noFactor) (known src (d .token) (p .0) (p .1 .means) .1) i) in
         at-other (z .0) (z .1 .1) x k (subst (λ (w : Word). look src k ≡ got w k) (z .1 .0) (p .1 .looks)))
 
     -- `(`
-    module _ (i : held d ≡ ParL) where
+    module _ (i : d .token ≡ ParL) where
       pub factor-deep : maxOpen ≤ o → Refuses src (λ n. factor src n o) (8 * left c + 1) c tooManyOpen
       factor-deep z =
           by-suc (λ x. (k : Place) → Stands src c k → factor src x o k ≡ refuse tooManyOpen) (8 * left c + 1) (omega arith)
@@ -204,7 +203,7 @@ module _ (src : List ℕ) (o : ℕ) where
 
     -- a name or a literal
     module _ {t : Cursor} (e : t ≡ taken d) (f : suc (left t) ≡ left c) {xs ys : List ℕ} {u end : ℕ} (fits : u ≤ length xs) (ends : end ≡ u + 4) (op : ℕ) where
-      pub factor-name : (a l : ℕ) → held d ≡ Identifier a l → a + l ≤ length src → front end ys ≡ front u xs ++ enc (word op a l)
+      pub factor-name : (a l : ℕ) → d .token ≡ Identifier a l → a + l ≤ length src → front end ys ≡ front u xs ++ enc (word op a l)
           → Reads (operand op) src xs u ys (λ n. factor src n o) (8 * left c + 1) 8 0 c (Node end t)
       unfolding Safe Means expNode
       factor-name a l i inside lies = record {
@@ -221,7 +220,7 @@ module _ (src : List ℕ) (o : ℕ) where
             });
       }
 
-      pub factor-number : (v : ℕ) → held d ≡ Integer v → front end ys ≡ front u xs ++ enc (literal op v)
+      pub factor-number : (v : ℕ) → d .token ≡ Integer v → front end ys ≡ front u xs ++ enc (literal op v)
           → Reads (operand op) src xs u ys (λ n. factor src n o) (8 * left c + 1) 8 0 c (Node end t)
       unfolding Safe Means expNode
       factor-number v i lies = record {

@@ -1,32 +1,33 @@
 -- Statements that hold statements, and bodies.
-use mathlib.Core.Path.{_≡_, refl, sym, ap, subst, _∙_}
-use mathlib.Core.List.{List, [], _∷_}
+use mathlib.Core.Path.{_≡_, refl, sym, ap, _∙_}
+use mathlib.Core.List.{List}
 use mathlib.Core.Option.{Option, none, some}
-use Prim.Native.Nat.{ℕ, zero, suc, _+_, _*_, _≤_, _<_}
+use Prim.Native.Nat.{ℕ, suc, _+_, _*_, _≤_}
 use native.Mathlib.Omega.{arith}
-use Rattle.lexer.specs.Marks.{thenWord, elseWord, doWord, beginWord, endWord, semicolonSign, placeOf}
-use Rattle.lexer.specs.Cursor.{Cursor as Place, Ans, got, refuse, Reader}
+use Rattle.lexer.specs.Marks.{thenWord, elseWord, doWord, placeOf}
+use Rattle.lexer.specs.Cursor.{Cursor as Place, got}
+use Rattle.lexer.specs.Kinds.{kindOf}
 use Rattle.lexer.specs.Stands.{Stands, taken, past, left}
 use Rattle.lexer.specs.declared.cursor.Cursor.{Cursor}
-use Rattle.tree.specs.Tree.{Cond, Stmt, ifThen, ifElse, while, Stmts, last, more}
-use Rattle.tree.specs.Layout.{Nodes, noMore, member, nodeNo, ifKind, whileKind, bodyKind, count}
-use Rattle.tree.specs.Nodes.{condNode, stmtNode, stmtNodes}
+use Rattle.tree.specs.Tree.{Cond, Stmt, ifThen, ifElse, while}
+use Rattle.tree.specs.Layout.{member, nodeNo, ifKind, whileKind, count}
+use Rattle.tree.specs.Nodes.{condNode, stmtNode}
 use Rattle.tree.specs.Writing.{join}
 use Rattle.parser.specs.declared.see.Seen.{Seen}
 use Rattle.parser.specs.declared.see.Seen.the-variants.{At, Refused as Stop}
 use Rattle.parser.specs.declared.answer.Answer.{Answer}
 use Rattle.parser.specs.declared.answer.Answer.the-variants.{Node, Nothing, Refused}
-use Rattle.grammar.specs.Reader.{then, want, ifNext}
-use Rattle.grammar.specs.Grammar.{cond, stmt, bodyOf, stmts, ifNode, mapO}
-use Rattle.parser.specs.Parts.{only, condition}
-use Rattle.parser.specs.Pieces.{statement, body, looped, conditional, elsePart}
+use Rattle.grammar.specs.Reader.{then, ifNext}
+use Rattle.grammar.specs.Grammar.{cond, stmt, ifNode, mapO}
+use Rattle.parser.specs.Parts.{condition}
+use Rattle.parser.specs.Pieces.{statement, looped, conditional, elsePart}
 use Rattle.parser.specs.Written.{Wrote, Seals}
 use Rattle.parser.specs.See.{Sees, Wants, whyOf}
-use Rattle.parser.specs.Meets.{Room, Grew, Safe, Made, Quiet, Means, Meets, Reads, Tries}
+use Rattle.parser.specs.Meets.{Room, Safe, Means, Reads, Tries}
 use Rattle.parser.specs.Quiet.{quietedOf}
 use Rattle.parser.proofs.Seeing.{saw, no-look, took, no-mark, next-is, next-is-not}
 use Rattle.parser.proofs.Writing.{wrote-none, wrote-more, wrote-kept}
-use Rattle.parser.proofs.Answers.{Refuses, by-suc, refused, grew, made, Moved}
+use Rattle.parser.proofs.Answers.{Refuses, refused, grew, made, Moved}
 use Rattle.parser.proofs.Tries.{quiet, quiet-left, Quietly, nothing}
 use Rattle.parser.proofs.Choices.{then-same, next-refused, next-then}
 
@@ -98,13 +99,13 @@ module _ (src : List ℕ) (o : ℕ) where
   else-refused h e q n l k s = next-refused src elseWord _ _ k (no-look h e q k s)
 
   module _ {c d : Cursor} {v : Seen} (h : Sees src c v) (at : v ≡ At d) where
-    pub else-absent : (d .kind ≡ placeOf elseWord → ⊥) → {xs : List ℕ} {u : ℕ} → Room src xs u 0 c → Tries statement src xs u xs (λ n. elsePart src n o) (8 * left c + 3) 8 0 c (Nothing d)
+    pub else-absent : (kindOf (d .token) ≡ placeOf elseWord → ⊥) → {xs : List ℕ} {u : ℕ} → Room src xs u 0 c → Tries statement src xs u xs (λ n. elsePart src n o) (8 * left c + 3) 8 0 c (Nothing d)
     unfolding elsePart
     else-absent i p =
         nothing (omega (arith, saw h at (p .place) (p .stands) .1 .same))
         (λ n l k s. let y = saw h at k s .1 in record { value = none; empty = refl; at = k; is = next-is-not y elseWord _ _ i; stands = y .stands; wrote = wrote-none (omega (arith, p .room)) })
 
-    pub else-there : {t : Cursor} → t ≡ taken d → d .kind ≡ placeOf elseWord → (n : ℕ) → 8 * left c + 3 ≤ n → (k : Place) → Stands src c k → Moved src (λ n. stmt src n o) (8 * left t + 3) t (elsePart src n o k)
+    pub else-there : {t : Cursor} → t ≡ taken d → kindOf (d .token) ≡ placeOf elseWord → (n : ℕ) → 8 * left c + 3 ≤ n → (k : Place) → Stands src c k → Moved src (λ n. stmt src n o) (8 * left t + 3) t (elsePart src n o k)
     unfolding elsePart
     else-there {t} e i n l k s =
         let p = saw h at k s .1 in

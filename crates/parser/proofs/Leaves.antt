@@ -1,8 +1,8 @@
 -- Names and literals: the word that a token says, and the leaf that is written of it.
-use mathlib.Core.Path.{_≡_, refl, sym, ap, _∙_}
+use mathlib.Core.Path.{_≡_, refl, ap}
 use mathlib.Core.Bool.{Bool, true, false}
 use mathlib.Core.List.{List, _++_}
-use Prim.Native.Nat.{ℕ, suc, _+_, _*_, _≤_}
+use Prim.Native.Nat.{ℕ, suc, _+_, _≤_}
 use native.Mathlib.Omega.{arith}
 use lib.Dec.{ltb}
 use lib.IntN.{pos}
@@ -12,16 +12,15 @@ use mir.Syntax.{w64}
 use mir.Val.{toZ}
 use mir.Facts.{toZ-pos}
 use Rattle.numbers.specs.Limits.{greatest, maxTokens}
-use Rattle.lexer.specs.Tokens.{Name, Token as Word, name, number, Found, token, bad, tooBig, endOfText, lexAt}
+use Rattle.lexer.specs.Tokens.{Token as Word, number, Found, token, bad, tooBig, endOfText, lexAt}
 use Rattle.lexer.specs.Cursor.{Cursor as Place, got, counted, judge, look}
 use Rattle.lexer.specs.Names.{literal-fits}
 use Rattle.lexer.specs.Meaning.{sees, meaning, nameAt}
-use Rattle.lexer.specs.Kinds.{held}
 use Rattle.lexer.specs.Stands.{left}
 use Rattle.lexer.specs.declared.token.Token.{Token}
-use Rattle.lexer.specs.declared.token.Token.the-variants.{Identifier, Integer}
+use Rattle.lexer.specs.declared.token.Token.the-variants.{Integer}
 use Rattle.lexer.specs.declared.cursor.Cursor.{Cursor}
-use Rattle.tree.specs.Layout.{Nodes, noMore, member, word, literal, size, enc}
+use Rattle.tree.specs.Layout.{word, literal, size, enc}
 use Rattle.parser.specs.Parts.{only}
 use Rattle.parser.specs.Written.{Wrote}
 use Rattle.parser.specs.See.{Saw}
@@ -29,7 +28,7 @@ use Rattle.parser.specs.Meets.{Grew}
 use Rattle.parser.proofs.Writing.{wrote-one}
 
 -- the word that a token of the code says is the one that was looked at
-pub looked-at : {src : List ℕ} {c d : Cursor} {k : Place} {w : Word} → Saw src c d k w → (t : Token) (v : Word) → held d ≡ t → meaning src t ≡ sees (token v) → look src k ≡ got v k
+pub looked-at : {src : List ℕ} {c d : Cursor} {k : Place} {w : Word} → Saw src c d k w → (t : Token) (v : Word) → d .token ≡ t → meaning src t ≡ sees (token v) → look src k ≡ got v k
 looked-at {src} {c} {d} {k} {w} s t v e m = let q : w ≡ v = cc (s .means, ap (meaning src) e) in rw q at (s .looks)
 
 -- what a look gets was found
@@ -47,7 +46,7 @@ got-found f w k = by f (ltb (k .seen) maxTokens) refl
     by endOfText b q e = cc
 
 -- a literal is the one that was looked at, and within i64
-pub literal-of : {src : List ℕ} {c d : Cursor} {k : Place} {w : Word} → Saw src c d k w → (v : ℕ) → held d ≡ Integer v → (v ≤ greatest) × (look src k ≡ got (number v) k)
+pub literal-of : {src : List ℕ} {c d : Cursor} {k : Place} {w : Word} → Saw src c d k w → (v : ℕ) → d .token ≡ Integer v → (v ≤ greatest) × (look src k ≡ got (number v) k)
 unfolding look
 literal-of {src} {k = k} s v e =
     let l = looked-at s (Integer v) (number v) e refl in

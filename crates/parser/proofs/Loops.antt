@@ -1,14 +1,14 @@
 -- A list that a loop reads: from where the loop begins, the definition of the rest is as far as the loop has come.
 use mathlib.Core.Path.{_≡_, refl, sym, ap, _∙_}
-use mathlib.Core.List.{List, [], _∷_}
-use Prim.Native.Nat.{ℕ, zero, suc, _+_, _*_, _≤_, _<_}
+use mathlib.Core.List.{List}
+use Prim.Native.Nat.{ℕ, _+_, _*_, _≤_}
 use native.Mathlib.Omega.{arith}
 use lib.ListN.{length}
 use Rattle.numbers.specs.Limits.{treeShare}
 use Rattle.lexer.specs.Cursor.{Cursor as Place, Ans, got, refuse, Reader}
 use Rattle.lexer.specs.Stands.{Stands, left}
 use Rattle.lexer.specs.declared.cursor.Cursor.{Cursor}
-use Rattle.tree.specs.Layout.{Nodes, noMore, member, count}
+use Rattle.tree.specs.Layout.{Nodes, noMore, count}
 use Rattle.tree.specs.Reading.{sizes-least}
 use Rattle.tree.specs.Writing.{join, join-join, count-join}
 use Rattle.grammar.specs.Reader.{then}

@@ -2,19 +2,20 @@
 use mathlib.Core.Path.{_≡_, refl, sym, ap, subst, _∙_}
 use mathlib.Core.List.{List}
 use mathlib.Core.Option.{Option, none, some}
-use Prim.Native.Nat.{ℕ, zero, suc, _+_, _*_, _≤_, _<_}
+use Prim.Native.Nat.{ℕ, suc, _+_, _*_, _≤_}
 use native.Mathlib.Omega.{arith}
 use lib.ListN.{length}
 use Rattle.numbers.specs.Limits.{treeShare}
 use Rattle.lexer.specs.Marks.{semicolonSign, placeOf}
 use Rattle.lexer.specs.Cursor.{Cursor as Place, Ans, got, refuse, Reader}
+use Rattle.lexer.specs.Kinds.{kindOf}
 use Rattle.lexer.specs.Stands.{Stands, taken, past, left}
 use Rattle.lexer.specs.declared.cursor.Cursor.{Cursor}
 use Rattle.tree.specs.Tree.{Stmt, Stmts, last, more}
-use Rattle.tree.specs.Layout.{Nodes, noMore, member, nodeNo, bodyKind, count}
-use Rattle.tree.specs.Nodes.{stmtNode, stmtNodes, bodyNode}
+use Rattle.tree.specs.Layout.{Nodes, noMore, nodeNo, bodyKind, count}
+use Rattle.tree.specs.Nodes.{stmtNodes}
 use Rattle.tree.specs.Reading.{sizes-least}
-use Rattle.tree.specs.Writing.{join, join-join, join-none, count-join}
+use Rattle.tree.specs.Writing.{join, join-join, count-join}
 use Rattle.parser.specs.declared.see.Seen.{Seen}
 use Rattle.parser.specs.declared.see.Seen.the-variants.{At, Refused as Stop}
 use Rattle.parser.specs.declared.answer.Answer.{Answer}
@@ -26,7 +27,7 @@ use Rattle.parser.specs.Pieces.{quietRest, Quiets}
 use Rattle.parser.specs.Quiet.{passedOf}
 use Rattle.parser.specs.Written.{Wrote, Seals}
 use Rattle.parser.specs.See.{Sees, whyOf}
-use Rattle.parser.specs.Meets.{Room, Grew, Safe, Made, Quiet, Means, Meets, Tries}
+use Rattle.parser.specs.Meets.{Room, Safe, Made, Quiet, Means, Tries}
 use Rattle.parser.proofs.Seeing.{saw, no-look, next-is, next-is-not}
 use Rattle.parser.proofs.Writing.{wrote-none, wrote-more, wrote-kept}
 use Rattle.parser.proofs.Answers.{Refuses, by-suc, refused, grew, made}
@@ -131,7 +132,7 @@ module _ (src : List ℕ) (o : ℕ) where
 
     module _ {zs : List ℕ} {f : ℕ} {d : Cursor} {r : Answer} (h : Tries P.statement src ys e zs (λ n. stmt src n o) (8 * left c + 3) 8 0 c r) (q : r ≡ Node f d) {v : Seen} (y : Sees src d v) {t : Cursor} (at : v ≡ At t) where
       -- `;`: the loop goes on
-      pub members-more : t .kind ≡ placeOf semicolonSign → {t′ : Cursor} → t′ ≡ taken t → suc (left t′) ≡ left d → length zs ≡ length ys → {s : ℕ} → Room src xs u s c₀ → Going xs u c₀ zs f (total + 1) t′
+      pub members-more : kindOf (t .token) ≡ placeOf semicolonSign → {t′ : Cursor} → t′ ≡ taken t → suc (left t′) ≡ left d → length zs ≡ length ys → {s : ℕ} → Room src xs u s c₀ → Going xs u c₀ zs f (total + 1) t′
       unfolding stmtNodes join count
       members-more i {t′} z fw q′ p =
           let w = grew h q in
@@ -168,7 +169,7 @@ module _ (src : List ℕ) (o : ℕ) where
           }
 
       -- no `;`: that was the last
-      pub members-done : (t .kind ≡ placeOf semicolonSign → ⊥) → left t ≡ left d → (w : ℕ) → u ≡ w + 4 → {ws : List ℕ} → Seals w (nodeNo bodyKind) 0 (total + 1) f zs ws
+      pub members-done : (kindOf (t .token) ≡ placeOf semicolonSign → ⊥) → left t ≡ left d → (w : ℕ) → u ≡ w + 4 → {ws : List ℕ} → Seals w (nodeNo bodyKind) 0 (total + 1) f zs ws
           → Tries P.body src xs w ws (λ n. stmts src n o) (8 * left c₀ + 4) 0 0 c₀ (Node f t)
       unfolding Safe Means stmtNodes join count mapO
       members-done i same w eq {ws} z =
@@ -280,7 +281,7 @@ module _ (src : List ℕ) (o : ℕ) where
       reading-stop e z n l k s = let a = g .on n l k s in a .is ∙ next-refused src semicolonSign _ _ (a .at) (no-look y e z (a .at) (a .stands))
 
       module _ {d : Cursor} (at : v ≡ At d) where
-        pub reading-end : (d .kind ≡ placeOf semicolonSign → ⊥) → left d ≡ left c → Quiets src xs u ys (λ n. quietRest src n o) (8 * left c₀ + 1) c₀ (Nothing d)
+        pub reading-end : (kindOf (d .token) ≡ placeOf semicolonSign → ⊥) → left d ≡ left c → Quiets src xs u ys (λ n. quietRest src n o) (8 * left c₀ + 1) c₀ (Nothing d)
         unfolding quietRest
         reading-end i m =
             nothing (omega (arith, g .fewer))
@@ -289,7 +290,7 @@ module _ (src : List ℕ) (o : ℕ) where
             let p = saw y at (a .at) (a .stands) .1 in
             record { value = none; empty = refl; at = a .at; is = a .is ∙ next-is-not p semicolonSign _ _ i; stands = p .stands; wrote = g .kept })
 
-        module _ (i : d .kind ≡ placeOf semicolonSign) {t : Cursor} (e : t ≡ taken d) (fw : suc (left t) ≡ left c) where
+        module _ (i : kindOf (d .token) ≡ placeOf semicolonSign) {t : Cursor} (e : t ≡ taken d) (fw : suc (left t) ≡ left c) where
           -- at a `;`
           at-semicolon : (n : ℕ) → 8 * left c₀ + 1 ≤ n → (k : Place) → Stands src c₀ k → (P : Ans (Option Stmts) → Type 0)
               → ((m : ℕ) → 8 * left c ≤ m → (k₁ : Place) → Stands src t k₁ → P (then (λ r k. got none k) (stmts src (suc m) o k₁))) → P (quietRest src n o k)

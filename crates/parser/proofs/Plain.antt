@@ -1,24 +1,25 @@
 -- Statements that hold no statement.
 use mathlib.Core.Path.{_≡_, refl, sym, ap, subst, _∙_}
 use mathlib.Core.List.{List, []}
-use mathlib.Core.Option.{Option, none, some}
+use mathlib.Core.Option.{Option, some}
 use Prim.Native.Nat.{ℕ, suc, _+_, _-_, _*_, _≤_}
 use native.Mathlib.Omega.{arith}
 use Rattle.numbers.specs.Limits.{treeShare}
 use Rattle.lexer.specs.Marks.{Mark, openSign, closeSign, becomesSign, placeOf}
 use Rattle.lexer.specs.Tokens.{Name}
 use Rattle.lexer.specs.Cursor.{Cursor as Place, Ans, got, refuse, Reader}
+use Rattle.lexer.specs.Kinds.{kindOf}
 use Rattle.lexer.specs.Stands.{Stands, taken, past, left}
 use Rattle.lexer.specs.declared.cursor.Cursor.{Cursor}
-use Rattle.tree.specs.Tree.{Exp, Stmt, assign, call, readS, writeS}
-use Rattle.tree.specs.Layout.{Nodes, noMore, member, branch, nodeNo, assignKind, callKind, readKind, writeKind, count}
+use Rattle.tree.specs.Tree.{Stmt, assign, call, readS, writeS}
+use Rattle.tree.specs.Layout.{Nodes, member, nodeNo, assignKind, callKind, count}
 use Rattle.tree.specs.Nodes.{nameNode, expNodes, listNodes, stmtNode}
 use Rattle.tree.specs.Writing.{join}
 use Rattle.parser.specs.declared.see.Seen.{Seen}
 use Rattle.parser.specs.declared.see.Seen.the-variants.{At, Refused as Stop}
 use Rattle.parser.specs.declared.answer.Answer.{Answer}
 use Rattle.parser.specs.declared.answer.Answer.the-variants.{Node, Nothing, Refused}
-use Rattle.grammar.specs.Reader.{then, want, ifNext, wantName, commas}
+use Rattle.grammar.specs.Reader.{then, want, wantName, commas}
 use Rattle.grammar.specs.Grammar.{exp}
 use Rattle.parser.specs.Parts.{only, operand}
 use Rattle.parser.specs.Pieces.{statement, assigned, called, reading, writing}
@@ -26,7 +27,7 @@ use Rattle.parser.specs.Lists.{closed, Ended as Closing, Ends}
 use Rattle.parser.specs.Arguments.{Argues}
 use Rattle.parser.specs.Written.{Wrote, Seals}
 use Rattle.parser.specs.See.{Sees, Wants, whyOf}
-use Rattle.parser.specs.Meets.{Room, Grew, Safe, Made, Means, Meets, Reads, Tries}
+use Rattle.parser.specs.Meets.{Room, Safe, Means, Reads, Tries}
 use Rattle.parser.proofs.Seeing.{saw, no-look, took, no-mark, next-is, next-is-not}
 use Rattle.parser.proofs.Writing.{wrote-more}
 use Rattle.parser.proofs.Answers.{Refuses, refused, grew, made, Moved}
@@ -129,7 +130,7 @@ module _ (src : List ℕ) (o : ℕ) where
 
       module _ {e : Cursor} (at′ : v′ ≡ At e) (fw : suc (left t) ≡ left d) where
         -- no arguments
-        pub called-none : e .kind ≡ placeOf closeSign → {f : Cursor} → f ≡ taken e → suc (left f) ≡ left t → {zs : List ℕ} → Seals u (nodeNo callKind) 0 1 i ys zs
+        pub called-none : kindOf (e .token) ≡ placeOf closeSign → {f : Cursor} → f ≡ taken e → suc (left f) ≡ left t → {zs : List ℕ} → Seals u (nodeNo callKind) 0 1 i ys zs
             → Tries statement src xs u zs (λ n. called src n o) (8 * left c + 3) 8 0 c (Node i f)
         unfolding called Safe Means stmtNode listNodes count
         called-none is {f} tk fw′ z =
@@ -150,7 +151,7 @@ module _ (src : List ℕ) (o : ℕ) where
             }
 
         -- arguments
-        pub called-some : (e .kind ≡ placeOf closeSign → ⊥) → left e ≡ left t → {v₀ s₀ : ℕ} {zs₀ : List ℕ} → Room src zs₀ v₀ s₀ c → {zs : List ℕ} (r′ : Answer) → Argues src o u (nodeNo callKind) 1 i ys zs e r′
+        pub called-some : (kindOf (e .token) ≡ placeOf closeSign → ⊥) → left e ≡ left t → {v₀ s₀ : ℕ} {zs₀ : List ℕ} → Room src zs₀ v₀ s₀ c → {zs : List ℕ} (r′ : Answer) → Argues src o u (nodeNo callKind) 1 i ys zs e r′
             → Tries statement src xs u zs (λ n. called src n o) (8 * left c + 3) 8 0 c r′
         unfolding called Safe Means stmtNode join count
         called-some is-not same p₀ {zs} (Node j f) a =

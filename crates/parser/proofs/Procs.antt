@@ -1,39 +1,40 @@
 -- Procedures and blocks: their definitions by the readers' parts, and what each part's answer comes to.
 use mathlib.Core.Path.{_≡_, refl, sym, ap, _∙_}
-use mathlib.Core.Bool.{Bool, true, false}
+use mathlib.Core.Bool.{Bool}
 use mathlib.Core.List.{List, [], _∷_, _++_}
 use mathlib.Core.Option.{Option, none, some}
 use Prim.Native.Nat.{ℕ, suc, _+_, _*_, _≤_, _<_}
 use native.Mathlib.Omega.{arith}
 use lib.ListN.{length, take as upTo}
-use types.Run.{OneOf, miss}
+use types.Run.{miss}
 use Rattle.numbers.specs.Panel.{tooManyOpen}
 use Rattle.numbers.specs.Limits.{maxOpen}
 use Rattle.lexer.specs.Marks.{procedureWord, programWord, openSign, semicolonSign, placeOf}
-use Rattle.lexer.specs.Tokens.{Name, Token as Word}
-use Rattle.lexer.specs.Cursor.{Cursor as Place, Ans, got, refuse, Reader, look}
+use Rattle.lexer.specs.Tokens.{Name}
+use Rattle.lexer.specs.Cursor.{Cursor as Place, Ans, got, refuse, Reader}
+use Rattle.lexer.specs.Kinds.{kindOf}
 use Rattle.lexer.specs.Stands.{Stands, taken, past, left}
 use Rattle.lexer.specs.declared.cursor.Cursor.{Cursor}
 use Rattle.tree.specs.Tree.{Const, Stmts, Procs, noProcs, proc, Block}
-use Rattle.tree.specs.Layout.{Nodes, noMore, member, branch, nodeNo, noProceduresKind, procedureKind, blockKind, count}
-use Rattle.tree.specs.Nodes.{nameNode, namesNode, constsNode, procsNode, bodyNode, blockNode}
+use Rattle.tree.specs.Layout.{Nodes, nodeNo, noProceduresKind, procedureKind, blockKind, count}
+use Rattle.tree.specs.Nodes.{nameNode, namesNode, procsNode, bodyNode, blockNode}
 use Rattle.tree.specs.Writing.{join}
 use Rattle.tree.specs.Reading.{sizes-least}
 use Rattle.parser.specs.declared.see.Seen.{Seen}
 use Rattle.parser.specs.declared.see.Seen.the-variants.{At, Refused as Stop}
 use Rattle.parser.specs.declared.answer.Answer.{Answer}
 use Rattle.parser.specs.declared.answer.Answer.the-variants.{Node, Nothing, Refused}
-use Rattle.grammar.specs.Reader.{then, pure, enter, isMark, want, ifNext, wantName}
+use Rattle.grammar.specs.Reader.{then, pure, enter, isMark, want, wantName}
 use Rattle.grammar.specs.Grammar.{both, mapO, orAbsent, constPart, varPart, argPart, bodyOf, procOf, innerOf, laterOf, program}
 use Rattle.parser.specs.Parts.{only}
 use Rattle.parser.specs.Blocks.{Decls, Head, Front, decls, declsNodes, head, headNodes, front, frontNodes, block, quietLater, Silent}
 use Rattle.parser.specs.Quiet.{quietedOf}
-use Rattle.parser.specs.See.{Saw, Sees, Wants, whyOf}
+use Rattle.parser.specs.See.{Sees, Wants, whyOf}
 use Rattle.parser.specs.Written.{Wrote, Seals}
-use Rattle.parser.specs.Meets.{Room, Safe, Made, Quiet, Means, Meets, Reads, Tries}
+use Rattle.parser.specs.Meets.{Safe, Made, Quiet, Means, Meets, Reads, Tries}
 use Rattle.parser.proofs.Seeing.{choose, saw, no-look, took, no-mark, it-is, it-is-not, next-is, next-is-not, enters, enters-not}
 use Rattle.parser.proofs.Writing.{wrote-more, wrote-kept}
-use Rattle.parser.proofs.Answers.{NoNode, Refuses, by-suc, refused, grew, made, Moved}
+use Rattle.parser.proofs.Answers.{Refuses, by-suc, refused, grew, made, Moved}
 use Rattle.parser.proofs.Choices.{then-then, then-same, next-refused}
 use Rattle.parser.proofs.Tries.{NoQuiet, quiet, quiet-left, Quietly, nothing}
 use Rattle.parser.proofs.Sequences.{Sequence, Joins}
@@ -344,7 +345,7 @@ module _ (src : List ℕ) where
           by-suc (λ x. (k : Place) → Stands src c k → laterOf src x o k ≡ refuse w) (8 * left c + 1) (omega arith) (λ x l k s. next-refused src semicolonSign _ _ k (no-look h e q k s))
 
       module _ {d : Cursor} (at : v ≡ At d) where
-        pub later-there : {t : Cursor} → t ≡ taken d → d .kind ≡ placeOf semicolonSign → (n : ℕ) → 8 * left c + 1 ≤ n → (k : Place) → Stands src c k → Moved src (λ n. procOf src n o) (8 * left t + 1) t (laterOf src n o k)
+        pub later-there : {t : Cursor} → t ≡ taken d → kindOf (d .token) ≡ placeOf semicolonSign → (n : ℕ) → 8 * left c + 1 ≤ n → (k : Place) → Stands src c k → Moved src (λ n. procOf src n o) (8 * left t + 1) t (laterOf src n o k)
         unfolding laterOf
         later-there {t} e i =
             by-suc (λ x. (k : Place) → Stands src c k → Moved src (λ n. procOf src n o) (8 * left t + 1) t (laterOf src x o k)) (8 * left c + 1) (omega arith)
@@ -353,7 +354,7 @@ module _ (src : List ℕ) where
             let f : suc (left t) ≡ left c = rw e (p .fewer) in
             record { fuel = x; enough = omega arith; at = past src k; stands = rw e (p .beyond); is = next-is p semicolonSign _ _ i })
 
-        pub later-none : {xs ys : List ℕ} {u e : ℕ} → (d .kind ≡ placeOf semicolonSign → ⊥) → left d ≡ left c → u ≤ length xs → e ≡ u + 4 → upTo (u + 4) ys ≡ upTo u xs ++ (nodeNo noProceduresKind ∷ 0 ∷ 0 ∷ 0 ∷ [])
+        pub later-none : {xs ys : List ℕ} {u e : ℕ} → (kindOf (d .token) ≡ placeOf semicolonSign → ⊥) → left d ≡ left c → u ≤ length xs → e ≡ u + 4 → upTo (u + 4) ys ≡ upTo u xs ++ (nodeNo noProceduresKind ∷ 0 ∷ 0 ∷ 0 ∷ [])
             → Tries (λ p. only (procsNode p)) src xs u ys (λ n. laterOf src n o) (8 * left c + 1) 0 4 c (Node e d)
         unfolding laterOf Safe Means procsNode
         later-none {xs} {ys} {u} {e} i f fits q l = record {
@@ -390,11 +391,11 @@ module _ (src : List ℕ) where
         unfolding innerOf choose absent
         inner-is n k s = ap (then (λ t. choose (isMark procedureWord t) (absent n) (pure noProcs))) (saw h at k s .1 .looks)
 
-        inner-there : d .kind ≡ placeOf procedureWord → (n : ℕ) (k : Place) → Stands src c k → innerOf src (suc n) o k ≡ then (λ p k. got (orAbsent p) k) (procOf src n o k)
+        inner-there : kindOf (d .token) ≡ placeOf procedureWord → (n : ℕ) (k : Place) → Stands src c k → innerOf src (suc n) o k ≡ then (λ p k. got (orAbsent p) k) (procOf src n o k)
         unfolding choose absent
         inner-there i n k s = inner-is n k s ∙ ap (λ (b : Bool). choose b (absent n) (pure noProcs) k) (it-is (saw h at k s .1) procedureWord i)
 
-        pub inner-none : {xs ys : List ℕ} {u e : ℕ} → (d .kind ≡ placeOf procedureWord → ⊥) → left d ≡ left c → u ≤ length xs → e ≡ u + 4 → upTo (u + 4) ys ≡ upTo u xs ++ (nodeNo noProceduresKind ∷ 0 ∷ 0 ∷ 0 ∷ [])
+        pub inner-none : {xs ys : List ℕ} {u e : ℕ} → (kindOf (d .token) ≡ placeOf procedureWord → ⊥) → left d ≡ left c → u ≤ length xs → e ≡ u + 4 → upTo (u + 4) ys ≡ upTo u xs ++ (nodeNo noProceduresKind ∷ 0 ∷ 0 ∷ 0 ∷ [])
             → Reads (λ p. only (procsNode p)) src xs u ys (λ n. innerOf src n o) (8 * left c + 2) 0 4 c (Node e d)
         unfolding choose Safe Means procsNode
         inner-none {xs} {ys} {u} {e} i f fits q l = record {
@@ -405,7 +406,7 @@ module _ (src : List ℕ) where
               record { value = noProcs; at = k; is = inner-is x k s ∙ ap (λ (b : Bool). choose b (absent x) (pure noProcs) k) (it-is-not p procedureWord i); stands = p .stands; wrote = wrote-empty noProceduresKind fits q l });
         }
 
-        module _ (i : d .kind ≡ placeOf procedureWord) (f : left d ≡ left c) {xs ys : List ℕ} {u : ℕ} where
+        module _ (i : kindOf (d .token) ≡ placeOf procedureWord) (f : left d ≡ left c) {xs ys : List ℕ} {u : ℕ} where
           -- a procedure, or a refusal
           pub inner-up : (r : Answer) → Tries (λ p. only (procsNode p)) src xs u ys (λ n. procOf src n o) (8 * left d + 1) 0 0 d r → NoQuiet r → Reads (λ p. only (procsNode p)) src xs u ys (λ n. innerOf src n o) (8 * left c + 2) 0 4 c r
           unfolding Safe Means orAbsent

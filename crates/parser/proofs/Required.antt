@@ -8,9 +8,7 @@ use Rattle.numbers.specs.Panel.{tokenMissing}
 use Rattle.lexer.specs.Tokens.{Token as Word, mark, name, number}
 use Rattle.lexer.specs.Cursor.{Cursor as Place, refuse, take}
 use Rattle.lexer.specs.Meaning.{nameAt}
-use Rattle.lexer.specs.Kinds.{held}
 use Rattle.lexer.specs.Stands.{taken, past, left}
-use Rattle.lexer.specs.declared.token.Token.{Token}
 use Rattle.lexer.specs.declared.token.Token.the-variants.{Identifier, Integer}
 use Rattle.lexer.specs.declared.cursor.Cursor.{Cursor}
 use Rattle.tree.specs.Layout.{word, literal, enc}
@@ -22,7 +20,7 @@ use Rattle.grammar.specs.Reader.{then, nameIn, numberIn, taking, wantName, want
 use Rattle.parser.specs.Parts.{only}
 use Rattle.parser.specs.See.{Sees, whyOf}
 use Rattle.parser.specs.Meets.{Safe, Means, Reads}
-use Rattle.parser.proofs.Tokens.{tag, tagIn, known}
+use Rattle.parser.proofs.Tokens.{tag, kindIn, known}
 use Rattle.parser.proofs.Seeing.{saw, no-look}
 use Rattle.parser.proofs.Leaves.{looked-at, literal-of, wrote-name, wrote-number, leaf-grew}
 use Rattle.parser.proofs.Answers.{Refuses}
@@ -35,14 +33,14 @@ abbrev pub noNumbers : List ℕ
 noNumbers = 0 ∷ 1 ∷ 2 ∷ 3 ∷ 4 ∷ 5 ∷ 6 ∷ 7 ∷ 8 ∷ 9 ∷ 10 ∷ 11 ∷ 12 ∷ 13 ∷ 14 ∷ 15 ∷ 16 ∷ 17 ∷ 18 ∷ 19 ∷ 20 ∷ 21 ∷ 22 ∷ 23 ∷ 24 ∷ 25 ∷ 26 ∷ 27 ∷ 28 ∷ 29 ∷ 30 ∷ 32 ∷ 33 ∷ 34 ∷ 35 ∷ []
 
 module _ (src : List ℕ) (k : Place) where
-  no-name : (w : Word) → OneOf noNames (tagIn w) → taking src (nameIn w) k ≡ refuse tokenMissing
-  unfolding taking nameIn tagIn
+  no-name : (w : Word) → OneOf noNames (kindIn w) → taking src (nameIn w) k ≡ refuse tokenMissing
+  unfolding taking nameIn kindIn
   no-name (mark m) h = refl
   no-name (name n) h = absurd (miss noNames 30 tt h)
   no-name (number v) h = refl
 
-  no-number : (w : Word) → OneOf noNumbers (tagIn w) → taking src (numberIn w) k ≡ refuse tokenMissing
-  unfolding taking numberIn tagIn
+  no-number : (w : Word) → OneOf noNumbers (kindIn w) → taking src (numberIn w) k ≡ refuse tokenMissing
+  unfolding taking numberIn kindIn
   no-number (mark m) h = refl
   no-number (name n) h = refl
   no-number (number v) h = absurd (miss noNumbers 31 tt h)
@@ -59,21 +57,21 @@ module _ {src : List ℕ} {c : Cursor} {v : Seen} (h : Sees src c v) where
 
   module _ {d : Cursor} (at : v ≡ At d) where
     -- it is another token
-    pub name-other : {m : ℕ} {t : Token} → t ≡ held d → OneOf noNames (tag t) → Refuses src (λ n. wantName src) m c tokenMissing
+    pub name-other : {m : ℕ} → OneOf noNames (tag (d .token)) → Refuses src (λ n. wantName src) m c tokenMissing
     unfolding wantName
-    name-other q o n l k s =
+    name-other o n l k s =
         let p = saw h at k s in
-        ap (then _) (p .1 .looks) ∙ no-name src k (p .0) (rw (ap tag q ∙ known src (held d) (p .0) (p .1 .means) .1) at o)
+        ap (then _) (p .1 .looks) ∙ no-name src k (p .0) (rw (known src (d .token) (p .0) (p .1 .means) .1) at o)
 
-    pub number-other : {m : ℕ} {t : Token} → t ≡ held d → OneOf noNumbers (tag t) → Refuses src (λ n. wantNumber src) m c tokenMissing
+    pub number-other : {m : ℕ} → OneOf noNumbers (tag (d .token)) → Refuses src (λ n. wantNumber src) m c tokenMissing
     unfolding wantNumber
-    number-other q o n l k s =
+    number-other o n l k s =
         let p = saw h at k s in
-        ap (then _) (p .1 .looks) ∙ no-number src k (p .0) (rw (ap tag q ∙ known src (held d) (p .0) (p .1 .means) .1) at o)
+        ap (then _) (p .1 .looks) ∙ no-number src k (p .0) (rw (known src (d .token) (p .0) (p .1 .means) .1) at o)
 
     -- it is there, and its leaf was written
     module _ {t : Cursor} (took : t ≡ taken d) (fewer : suc (left t) ≡ left c) {xs ys : List ℕ} {u e : ℕ} (fits : u ≤ length xs) (ends : e ≡ u + 4) where
-      pub name-there : (a n : ℕ) → held d ≡ Identifier a n → a + n ≤ length src → front e ys ≡ front u xs ++ enc (word 0 a n)
+      pub name-there : (a n : ℕ) → d .token ≡ Identifier a n → a + n ≤ length src → front e ys ≡ front u xs ++ enc (word 0 a n)
           → Reads (λ n. only (nameNode n)) src xs u ys (λ n. wantName src) 0 8 0 c (Node e t)
       unfolding Safe Means wantName nameIn taking take
       name-there a n i inside lies = record {
@@ -89,7 +87,7 @@ module _ {src : List ℕ} {c : Cursor} {v : Seen} (h : Sees src c v) where
             };
       }
 
-      pub number-there : (v : ℕ) → held d ≡ Integer v → front e ys ≡ front u xs ++ enc (literal 0 v)
+      pub number-there : (v : ℕ) → d .token ≡ Integer v → front e ys ≡ front u xs ++ enc (literal 0 v)
           → Reads (λ v. only (literal 0 v)) src xs u ys (λ n. wantNumber src) 0 8 0 c (Node e t)
       unfolding Safe Means wantNumber numberIn taking take
       number-there v i lies = record {

@@ -2,43 +2,41 @@
 use mathlib.Core.Path.{_≡_, sym, ap, _∙_}
 use mathlib.Core.Bool.{Bool, true, false}
 use mathlib.Core.List.{List}
-use Prim.Native.Nat.{ℕ, suc, _≤_, _<_}
-use lib.Dec.{eqb}
-use borrow.Author.Tests.{eq-eqb, ne-eqb, lt-ltb, le-ltb}
+use Prim.Native.Nat.{ℕ, _≤_, _<_}
+use native.Mathlib.Omega.{arith}
+use lib.Dec.{eqb, ltb}
+use borrow.Author.Tests.{eq-eqb, ne-eqb, lt-ltb, le-ltb, ltb-false}
 use Rattle.numbers.specs.Panel.{tokenMissing, tooManyOpen}
 use Rattle.numbers.specs.Limits.{maxOpen}
 use Rattle.lexer.specs.Marks.{Mark, placeOf}
 use Rattle.lexer.specs.Tokens.{Token as Word}
-use Rattle.lexer.specs.Cursor.{Cursor as Place, Ans, got, refuse, Reader, look, take}
-use Rattle.lexer.specs.Meaning.{Sight}
-use Rattle.lexer.specs.Kinds.{kindOf, held}
-use Rattle.lexer.specs.Stands.{Stands, Holds, Looks, taken, past, left, told, answer, look-holds, holds-stands, holds-answer, take-stands, look-left, take-left}
-use Rattle.lexer.specs.declared.token.Token.{Token}
+use Rattle.lexer.specs.Cursor.{Cursor as Place, got, refuse, Reader, look, take}
+use Rattle.lexer.specs.Meaning.{Sight, meaning}
+use Rattle.lexer.specs.Kinds.{kindOf}
+use Rattle.lexer.specs.Stands.{Stands, Looks, taken, past, told, look-holds, holds-stands, holds-answer, take-stands, look-left, take-left}
 use Rattle.lexer.specs.declared.cursor.Cursor.{Cursor}
 use Rattle.parser.specs.declared.see.Seen.{Seen}
 use Rattle.parser.specs.declared.see.Seen.the-variants.{At, Refused}
 use Rattle.grammar.specs.Reader.{then, fail, isMark, enter, want, ifNext}
-use Rattle.parser.specs.See.{Saw, Looked, Sees, Took, Wanted, Wants, whyOf}
-use Rattle.parser.proofs.Tokens.{known, is-mark, shown}
+use Rattle.parser.specs.See.{refusalIn, Saw, Looked, Sees, Took, Wanted, Wants, whyOf}
+use Rattle.parser.proofs.Tokens.{known, is-mark, shown, refused-as}
 
 module _ {src : List ℕ} {c d : Cursor} (l : Looks src c d) where
   -- a token that is refused
-  pub see-refused : (n : ℕ) (t : Token) → ((k : Place) → answer src t k ≡ refuse n) → held d ≡ t → Sees src c (Refused n)
+  pub see-refused : {n : ℕ} → ltb 0 (refusalIn (meaning src (d .token))) ≡ true → n ≡ refusalIn (meaning src (d .token)) → Sees src c (Refused n)
   unfolding Looked
-  see-refused n t a e = record { looked = λ k s. holds-answer (look-holds l s) ∙ ap (λ (x : Token). answer src x k) e ∙ a k }
+  see-refused e q = record { looked = λ k s. holds-answer (look-holds l s) ∙ refused-as (meaning src (d .token)) k e ∙ ap refuse (sym q) }
 
   -- any other
-  pub see-at : (d .kind ≡ 32 → ⊥) → (d .kind ≡ 33 → ⊥) → (d .kind ≡ 34 → ⊥) → (d .kind ≡ 35 → ⊥) → Sees src c (At d)
+  pub see-at : ltb 0 (refusalIn (meaning src (d .token))) ≡ false → Sees src c (At d)
   unfolding Looked
-  see-at no-bad no-big no-more no-end = record {
+  see-at none = record {
     looked = λ k s.
         let o = look-holds l s in
-        let i : d .kind ≡ kindOf (held d) = ap (λ (x : Cursor). x .kind) (o .is) in
-        let p = shown src (held d) (λ e. no-bad (i ∙ e)) (λ e. no-big (i ∙ e)) (λ e. no-more (i ∙ e)) (λ e. no-end (i ∙ e)) in
+        let p = shown (meaning src (d .token)) (omega (arith, ltb-false 0 (refusalIn (meaning src (d .token))) none)) in
         let e : look src k ≡ got (p .0) k = holds-answer o ∙ ap (λ (x : Sight). told x k) (p .1) in (
           p .0,
           record {
-            kind = i;
             means = p .1;
             inside = o .inside;
             looks = e;
@@ -52,13 +50,13 @@ module _ {src : List ℕ} {c d : Cursor} (l : Looks src c d) where
 
 -- the token that was looked at is a mark, or is not
 module _ {src : List ℕ} {c d : Cursor} {k : Place} {w : Word} (s : Saw src c d k w) (m : Mark) where
-  numbers : isMark m w ≡ eqb (d .kind) (placeOf m)
-  numbers = is-mark m w ∙ ap (λ (n : ℕ). eqb n (placeOf m)) (sym (s .kind ∙ known src (held d) w (s .means) .0))
+  numbers : isMark m w ≡ eqb (kindOf (d .token)) (placeOf m)
+  numbers = is-mark m w ∙ ap (λ (n : ℕ). eqb n (placeOf m)) (sym (known src (d .token) w (s .means) .0))
 
-  pub it-is : d .kind ≡ placeOf m → isMark m w ≡ true
+  pub it-is : kindOf (d .token) ≡ placeOf m → isMark m w ≡ true
   it-is e = numbers ∙ eq-eqb _ _ e
 
-  pub it-is-not : (d .kind ≡ placeOf m → ⊥) → isMark m w ≡ false
+  pub it-is-not : (kindOf (d .token) ≡ placeOf m → ⊥) → isMark m w ≡ false
   it-is-not e = numbers ∙ ne-eqb _ _ e
 
 -- the definitions of a required mark and of a choice by a mark, once the token is known
@@ -66,25 +64,25 @@ unfoldable pub choose : {A : Type 0} → Bool → Reader A → Reader A → Read
 choose b p q = elim b [ true ↦ p | false ↦ q ]
 
 module _ {src : List ℕ} {c d : Cursor} {k : Place} {w : Word} (s : Saw src c d k w) (m : Mark) where
-  pub want-is : d .kind ≡ placeOf m → want src m k ≡ got tt (past src k)
+  pub want-is : kindOf (d .token) ≡ placeOf m → want src m k ≡ got tt (past src k)
   unfolding want choose take
   want-is e =
       ap (then (λ t. choose (isMark m t) (take src) (fail tokenMissing))) (s .looks)
       ∙ ap (λ (x : Bool). choose x (take src) (fail tokenMissing) k) (it-is s m e)
 
-  pub want-is-not : (d .kind ≡ placeOf m → ⊥) → want src m k ≡ refuse tokenMissing
+  pub want-is-not : (kindOf (d .token) ≡ placeOf m → ⊥) → want src m k ≡ refuse tokenMissing
   unfolding want choose
   want-is-not e =
       ap (then (λ t. choose (isMark m t) (take src) (fail tokenMissing))) (s .looks)
       ∙ ap (λ (x : Bool). choose x (take src) (fail tokenMissing) k) (it-is-not s m e)
 
-  pub next-is : {A : Type 0} (a b : Reader A) → d .kind ≡ placeOf m → ifNext src m a b k ≡ a (past src k)
+  pub next-is : {A : Type 0} (a b : Reader A) → kindOf (d .token) ≡ placeOf m → ifNext src m a b k ≡ a (past src k)
   unfolding ifNext choose take
   next-is a b e =
       ap (then (λ t. choose (isMark m t) (λ c. then (λ u. a) (take src c)) b)) (s .looks)
       ∙ ap (λ (x : Bool). choose x (λ c. then (λ u. a) (take src c)) b k) (it-is s m e)
 
-  pub next-is-not : {A : Type 0} (a b : Reader A) → (d .kind ≡ placeOf m → ⊥) → ifNext src m a b k ≡ b k
+  pub next-is-not : {A : Type 0} (a b : Reader A) → (kindOf (d .token) ≡ placeOf m → ⊥) → ifNext src m a b k ≡ b k
   unfolding ifNext choose
   next-is-not a b e =
       ap (then (λ t. choose (isMark m t) (λ c. then (λ u. a) (take src c)) b)) (s .looks)
@@ -123,7 +121,7 @@ module _ {src : List ℕ} {c : Cursor} {r : Seen} (h : Sees src c r) (m : Mark) 
   unfolding Wanted Looked want
   want-refused {n} e = rw e (record { wanted = λ k s. rw ((rw e at (h .looked)) k s) })
 
-  pub want-took : {d e : Cursor} → r ≡ At d → d .kind ≡ placeOf m → e ≡ taken d → Wants src m c (At e)
+  pub want-took : {d e : Cursor} → r ≡ At d → kindOf (d .token) ≡ placeOf m → e ≡ taken d → Wants src m c (At e)
   unfolding Wanted
   want-took q i z = record {
     wanted = λ k s.
@@ -131,6 +129,6 @@ module _ {src : List ℕ} {c : Cursor} {r : Seen} (h : Sees src c r) (m : Mark) 
         record { wants = want-is p m i; stands = rw z (p .beyond); fewer = rw z (p .fewer) };
   }
 
-  pub want-other : {d : Cursor} → r ≡ At d → (d .kind ≡ placeOf m → ⊥) → Wants src m c (Refused tokenMissing)
+  pub want-other : {d : Cursor} → r ≡ At d → (kindOf (d .token) ≡ placeOf m → ⊥) → Wants src m c (Refused tokenMissing)
   unfolding Wanted want
   want-other q i = record { wanted = λ k s. let p = saw h q k s .1 in want-is-not p m i }

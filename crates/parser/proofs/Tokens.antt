@@ -10,54 +10,23 @@ use types.Run.{OneOf, miss}
 use denote.Enum.Declared.{tagOf}
 use Rattle.lexer.proofs.token.Token as Tok
 use Rattle.lexer.specs.Marks.{Mark, ifWord, thenWord, elseWord, whileWord, doWord, constWord, varWord, procedureWord, programWord, beginWord, endWord, callWord, readWord, writeWord, oddWord, plusSign, minusSign, timesSign, divideSign, equalSign, lessSign, greaterSign, atMostSign, atLeastSign, unequalSign, becomesSign, openSign, closeSign, semicolonSign, commaSign, placeOf, same}
-use Rattle.lexer.specs.Tokens.{Token as Word, mark, name, number, token}
-use Rattle.lexer.specs.Meaning.{sees, meaning}
+use Rattle.lexer.specs.Tokens.{Token as Word, mark, name, number, token, bad, tooBig, endOfText}
+use Rattle.lexer.specs.Cursor.{Cursor as Place, refuse}
+use Rattle.lexer.specs.Meaning.{Sight, sees, tooMany, meaning}
 use Rattle.lexer.specs.Kinds.{kindOf}
+use Rattle.lexer.specs.Stands.{told}
 use Rattle.lexer.specs.declared.token.Token.{Token}
 use Rattle.lexer.specs.declared.token.Token.the-variants.{If, Then, Else, While, Do, Const, Var, Procedure, Program, Begin, End, Call, Read, Write, Odd, Add, Sub, Mul, Div, Eq, Lt, Gt, Le, Ge, Ne, EqSign, ParL, ParR, Semicolon, Comma, Identifier, Integer, LexicalError, TooBig, TooMany, EndOfText}
 use Rattle.grammar.specs.Reader.{isMark}
+use Rattle.parser.specs.See.{refusalIn}
 
--- the kind of a word
+-- the kind of a word: its variant's number among the tokens of the code
 unfoldable pub kindIn : Word → ℕ
 kindIn (mark m) = placeOf m
 kindIn (name n) = 30
 kindIn (number v) = 31
 
--- the number of a word's variant among the tokens of the code
-unfoldable pub tagIn : Word → ℕ
-tagIn (mark ifWord) = 0
-tagIn (mark thenWord) = 1
-tagIn (mark elseWord) = 2
-tagIn (mark whileWord) = 3
-tagIn (mark doWord) = 4
-tagIn (mark constWord) = 5
-tagIn (mark varWord) = 6
-tagIn (mark procedureWord) = 7
-tagIn (mark programWord) = 8
-tagIn (mark beginWord) = 9
-tagIn (mark endWord) = 10
-tagIn (mark callWord) = 11
-tagIn (mark readWord) = 12
-tagIn (mark writeWord) = 13
-tagIn (mark oddWord) = 14
-tagIn (mark plusSign) = 15
-tagIn (mark minusSign) = 16
-tagIn (mark timesSign) = 17
-tagIn (mark divideSign) = 18
-tagIn (mark equalSign) = 19
-tagIn (mark lessSign) = 20
-tagIn (mark greaterSign) = 21
-tagIn (mark atMostSign) = 22
-tagIn (mark atLeastSign) = 23
-tagIn (mark unequalSign) = 24
-tagIn (mark becomesSign) = 25
-tagIn (mark openSign) = 26
-tagIn (mark closeSign) = 27
-tagIn (mark semicolonSign) = 28
-tagIn (mark commaSign) = 29
-tagIn (name n) = 30
-tagIn (number v) = 31
-
+-- the number of a token's variant
 abbrev pub tag : Token → ℕ
 tag t = tagOf Tok.the-type t
 
@@ -65,40 +34,40 @@ word : {v w : Word} → sees (token v) ≡ sees (token w) → v ≡ w
 word e = cc
 
 -- which word a token says is told by its kind and by its variant
-pub known : (src : List ℕ) (t : Token) (w : Word) → meaning src t ≡ sees (token w) → (kindOf t ≡ kindIn w) × (tag t ≡ tagIn w)
-unfolding kindIn tagIn placeOf
-known src If w e = (ap kindIn (word e), ap tagIn (word e))
-known src Then w e = (ap kindIn (word e), ap tagIn (word e))
-known src Else w e = (ap kindIn (word e), ap tagIn (word e))
-known src While w e = (ap kindIn (word e), ap tagIn (word e))
-known src Do w e = (ap kindIn (word e), ap tagIn (word e))
-known src Const w e = (ap kindIn (word e), ap tagIn (word e))
-known src Var w e = (ap kindIn (word e), ap tagIn (word e))
-known src Procedure w e = (ap kindIn (word e), ap tagIn (word e))
-known src Program w e = (ap kindIn (word e), ap tagIn (word e))
-known src Begin w e = (ap kindIn (word e), ap tagIn (word e))
-known src End w e = (ap kindIn (word e), ap tagIn (word e))
-known src Call w e = (ap kindIn (word e), ap tagIn (word e))
-known src Read w e = (ap kindIn (word e), ap tagIn (word e))
-known src Write w e = (ap kindIn (word e), ap tagIn (word e))
-known src Odd w e = (ap kindIn (word e), ap tagIn (word e))
-known src Add w e = (ap kindIn (word e), ap tagIn (word e))
-known src Sub w e = (ap kindIn (word e), ap tagIn (word e))
-known src Mul w e = (ap kindIn (word e), ap tagIn (word e))
-known src Div w e = (ap kindIn (word e), ap tagIn (word e))
-known src Eq w e = (ap kindIn (word e), ap tagIn (word e))
-known src Lt w e = (ap kindIn (word e), ap tagIn (word e))
-known src Gt w e = (ap kindIn (word e), ap tagIn (word e))
-known src Le w e = (ap kindIn (word e), ap tagIn (word e))
-known src Ge w e = (ap kindIn (word e), ap tagIn (word e))
-known src Ne w e = (ap kindIn (word e), ap tagIn (word e))
-known src EqSign w e = (ap kindIn (word e), ap tagIn (word e))
-known src ParL w e = (ap kindIn (word e), ap tagIn (word e))
-known src ParR w e = (ap kindIn (word e), ap tagIn (word e))
-known src Semicolon w e = (ap kindIn (word e), ap tagIn (word e))
-known src Comma w e = (ap kindIn (word e), ap tagIn (word e))
-known src (Identifier a n) w e = (ap kindIn (word e), ap tagIn (word e))
-known src (Integer v) w e = (ap kindIn (word e), ap tagIn (word e))
+pub known : (src : List ℕ) (t : Token) (w : Word) → meaning src t ≡ sees (token w) → (kindOf t ≡ kindIn w) × (tag t ≡ kindIn w)
+unfolding kindIn placeOf
+known src If w e = (ap kindIn (word e), ap kindIn (word e))
+known src Then w e = (ap kindIn (word e), ap kindIn (word e))
+known src Else w e = (ap kindIn (word e), ap kindIn (word e))
+known src While w e = (ap kindIn (word e), ap kindIn (word e))
+known src Do w e = (ap kindIn (word e), ap kindIn (word e))
+known src Const w e = (ap kindIn (word e), ap kindIn (word e))
+known src Var w e = (ap kindIn (word e), ap kindIn (word e))
+known src Procedure w e = (ap kindIn (word e), ap kindIn (word e))
+known src Program w e = (ap kindIn (word e), ap kindIn (word e))
+known src Begin w e = (ap kindIn (word e), ap kindIn (word e))
+known src End w e = (ap kindIn (word e), ap kindIn (word e))
+known src Call w e = (ap kindIn (word e), ap kindIn (word e))
+known src Read w e = (ap kindIn (word e), ap kindIn (word e))
+known src Write w e = (ap kindIn (word e), ap kindIn (word e))
+known src Odd w e = (ap kindIn (word e), ap kindIn (word e))
+known src Add w e = (ap kindIn (word e), ap kindIn (word e))
+known src Sub w e = (ap kindIn (word e), ap kindIn (word e))
+known src Mul w e = (ap kindIn (word e), ap kindIn (word e))
+known src Div w e = (ap kindIn (word e), ap kindIn (word e))
+known src Eq w e = (ap kindIn (word e), ap kindIn (word e))
+known src Lt w e = (ap kindIn (word e), ap kindIn (word e))
+known src Gt w e = (ap kindIn (word e), ap kindIn (word e))
+known src Le w e = (ap kindIn (word e), ap kindIn (word e))
+known src Ge w e = (ap kindIn (word e), ap kindIn (word e))
+known src Ne w e = (ap kindIn (word e), ap kindIn (word e))
+known src EqSign w e = (ap kindIn (word e), ap kindIn (word e))
+known src ParL w e = (ap kindIn (word e), ap kindIn (word e))
+known src ParR w e = (ap kindIn (word e), ap kindIn (word e))
+known src Semicolon w e = (ap kindIn (word e), ap kindIn (word e))
+known src Comma w e = (ap kindIn (word e), ap kindIn (word e))
+known src (Identifier a n) w e = (ap kindIn (word e), ap kindIn (word e))
+known src (Integer v) w e = (ap kindIn (word e), ap kindIn (word e))
 known src LexicalError w e = (cc, cc)
 known src TooBig w e = (cc, cc)
 known src TooMany w e = (cc, cc)
@@ -148,52 +117,71 @@ is-mark m (mark k) = refl
 is-mark m (name n) = sym (no-mark 30 (omega arith) m)
 is-mark m (number v) = sym (no-mark 31 (omega arith) m)
 
--- a token that is none of those refused says a word
-pub shown : (src : List ℕ) (t : Token) → (kindOf t ≡ 32 → ⊥) → (kindOf t ≡ 33 → ⊥) → (kindOf t ≡ 34 → ⊥) → (kindOf t ≡ 35 → ⊥) → (w : Word) × (meaning src t ≡ sees (token w))
-shown src If a b d e = (_, refl)
-shown src Then a b d e = (_, refl)
-shown src Else a b d e = (_, refl)
-shown src While a b d e = (_, refl)
-shown src Do a b d e = (_, refl)
-shown src Const a b d e = (_, refl)
-shown src Var a b d e = (_, refl)
-shown src Procedure a b d e = (_, refl)
-shown src Program a b d e = (_, refl)
-shown src Begin a b d e = (_, refl)
-shown src End a b d e = (_, refl)
-shown src Call a b d e = (_, refl)
-shown src Read a b d e = (_, refl)
-shown src Write a b d e = (_, refl)
-shown src Odd a b d e = (_, refl)
-shown src Add a b d e = (_, refl)
-shown src Sub a b d e = (_, refl)
-shown src Mul a b d e = (_, refl)
-shown src Div a b d e = (_, refl)
-shown src Eq a b d e = (_, refl)
-shown src Lt a b d e = (_, refl)
-shown src Gt a b d e = (_, refl)
-shown src Le a b d e = (_, refl)
-shown src Ge a b d e = (_, refl)
-shown src Ne a b d e = (_, refl)
-shown src EqSign a b d e = (_, refl)
-shown src ParL a b d e = (_, refl)
-shown src ParR a b d e = (_, refl)
-shown src Semicolon a b d e = (_, refl)
-shown src Comma a b d e = (_, refl)
-shown src (Identifier i n) a b d e = (_, refl)
-shown src (Integer v) a b d e = (_, refl)
-shown src LexicalError a b d e = absurd (a refl)
-shown src TooBig a b d e = absurd (b refl)
-shown src TooMany a b d e = absurd (d refl)
-shown src EndOfText a b d e = absurd (e refl)
+-- the variants that are looked at without a refusal
+abbrev pub sound : List ℕ
+sound = 0 ∷ 1 ∷ 2 ∷ 3 ∷ 4 ∷ 5 ∷ 6 ∷ 7 ∷ 8 ∷ 9 ∷ 10 ∷ 11 ∷ 12 ∷ 13 ∷ 14 ∷ 15 ∷ 16 ∷ 17 ∷ 18 ∷ 19 ∷ 20 ∷ 21 ∷ 22 ∷ 23 ∷ 24 ∷ 25 ∷ 26 ∷ 27 ∷ 28 ∷ 29 ∷ 30 ∷ 31 ∷ []
+
+pub sound-token : (t : Token) → OneOf sound (tag t) → (src : List ℕ) → refusalIn (meaning src t) ≡ 0
+sound-token If h src = refl
+sound-token Then h src = refl
+sound-token Else h src = refl
+sound-token While h src = refl
+sound-token Do h src = refl
+sound-token Const h src = refl
+sound-token Var h src = refl
+sound-token Procedure h src = refl
+sound-token Program h src = refl
+sound-token Begin h src = refl
+sound-token End h src = refl
+sound-token Call h src = refl
+sound-token Read h src = refl
+sound-token Write h src = refl
+sound-token Odd h src = refl
+sound-token Add h src = refl
+sound-token Sub h src = refl
+sound-token Mul h src = refl
+sound-token Div h src = refl
+sound-token Eq h src = refl
+sound-token Lt h src = refl
+sound-token Gt h src = refl
+sound-token Le h src = refl
+sound-token Ge h src = refl
+sound-token Ne h src = refl
+sound-token EqSign h src = refl
+sound-token ParL h src = refl
+sound-token ParR h src = refl
+sound-token Semicolon h src = refl
+sound-token Comma h src = refl
+sound-token (Identifier at n) h src = refl
+sound-token (Integer v) h src = refl
+sound-token LexicalError h src = absurd (miss sound 32 tt h)
+sound-token TooBig h src = absurd (miss sound 33 tt h)
+sound-token TooMany h src = absurd (miss sound 34 tt h)
+sound-token EndOfText h src = absurd (miss sound 35 tt h)
+
+-- what is seen without a refusal is a word
+pub shown : (s : Sight) → refusalIn s ≡ 0 → (w : Word) × (s ≡ sees (token w))
+shown (sees (token w)) e = (w, refl)
+shown (sees bad) e = absurd (omega arith)
+shown (sees tooBig) e = absurd (omega arith)
+shown (sees endOfText) e = absurd (omega arith)
+shown tooMany e = absurd (omega arith)
+
+-- and what is refused is refused with that number
+pub refused-as : (s : Sight) (k : Place) → ltb 0 (refusalIn s) ≡ true → told s k ≡ refuse (refusalIn s)
+refused-as (sees (token w)) k e = absurd (omega (arith, ltb-true 0 0 e))
+refused-as (sees bad) k e = refl
+refused-as (sees tooBig) k e = refl
+refused-as (sees endOfText) k e = refl
+refused-as tooMany k e = refl
 
 -- the variants that start no factor
 abbrev pub noFactor : List ℕ
 noFactor = 0 ∷ 1 ∷ 2 ∷ 3 ∷ 4 ∷ 5 ∷ 6 ∷ 7 ∷ 8 ∷ 9 ∷ 10 ∷ 11 ∷ 12 ∷ 13 ∷ 14 ∷ 15 ∷ 16 ∷ 17 ∷ 18 ∷ 19 ∷ 20 ∷ 21 ∷ 22 ∷ 23 ∷ 24 ∷ 25 ∷ 27 ∷ 28 ∷ 29 ∷ 32 ∷ 33 ∷ 34 ∷ 35 ∷ []
 
 -- a word of such a variant is a mark other than `(`
-pub no-factor : (w : Word) → OneOf noFactor (tagIn w) → (m : Mark) × ((w ≡ mark m) × (same m openSign ≡ false))
-unfolding tagIn same placeOf
+pub no-factor : (w : Word) → OneOf noFactor (kindIn w) → (m : Mark) × ((w ≡ mark m) × (same m openSign ≡ false))
+unfolding kindIn same placeOf
 no-factor (mark ifWord) h = (ifWord, (refl, refl))
 no-factor (mark thenWord) h = (thenWord, (refl, refl))
 no-factor (mark elseWord) h = (elseWord, (refl, refl))

@@ -1,19 +1,18 @@
 -- Answers of readers that may yield nothing: what a caller learns of each case, and how a refusal or nothing goes up.
 use mathlib.Core.Path.{_≡_}
 use mathlib.Core.List.{List, [], _∷_}
-use Prim.Native.Nat.{ℕ, _+_, _*_, _≤_}
+use Prim.Native.Nat.{ℕ, _+_, _≤_}
 use native.Mathlib.Omega.{arith}
 use lib.ListN.{length}
 use types.Run.{OneOf, miss}
 use denote.Enum.Declared.{tagOf}
-use Rattle.numbers.specs.Limits.{treeShare}
-use Rattle.lexer.specs.Cursor.{Cursor as Place, Ans, got, refuse, Reader}
+use Rattle.lexer.specs.Cursor.{Cursor as Place, Reader}
 use Rattle.lexer.specs.Stands.{Stands, left}
 use Rattle.lexer.specs.declared.cursor.Cursor.{Cursor}
 use Rattle.tree.specs.Layout.{Nodes}
 use Rattle.parser.specs.declared.answer.Answer.{Answer}
 use Rattle.parser.specs.declared.answer.Answer.the-variants.{Node, Nothing, Refused}
-use Rattle.parser.specs.Meets.{Room, Safe, Made, Quiet, Means, Meets}
+use Rattle.parser.specs.Meets.{Room, Safe, Quiet, Means, Meets}
 use Rattle.parser.proofs.Answers.{NoNode, Refuses, refused}
 use Rattle.parser.proofs.answer.Answer as Ansr
 

@@ -1,11 +1,11 @@
 -- How what is written adds up: nodes after nodes, and a node over its members.
 use mathlib.Core.Path.{_≡_, refl, sym, ap, _∙_}
 use mathlib.Core.List.{List, [], _∷_, _++_, append-assoc}
-use Prim.Native.Nat.{ℕ, suc, _+_, _-_, _≤_, _<_}
+use Prim.Native.Nat.{ℕ, _+_, _-_, _≤_}
 use native.Mathlib.Omega.{arith}
 use lib.ListN.{length, take, drop, set}
 use lib.Seq.{length-take-le, take-take, take-append-le, take-add, drop-at, drop-set-lt}
-use Rattle.tree.specs.Layout.{NodeKind, Node, Nodes, noMore, member, branch, nodeNo, count, size, sizes, enc, encs}
+use Rattle.tree.specs.Layout.{Node, Nodes, noMore, member, nodeNo, count, size, sizes, enc, encs}
 use Rattle.tree.specs.Writing.{four-put, join, encs-join, sizes-join}
 use Rattle.parser.specs.Written.{Wrote, Seals}
 

@@ -29,6 +29,12 @@ reading src =
       | true ↦ elim (every isAscii src) [ false ↦ refused sourceNotAscii | true ↦ parse src ]
     ]
 
+-- a refusal's number is one of the panel's, which a byte holds
+abbrev pub Numbered : Answer → Type 0
+Numbered (Node e d) = Unit
+Numbered (Nothing d) = Unit
+Numbered (Stopped n) = n < 256
+
 -- what the program's answer comes to: "the main body failed quietly" is 6
 abbrev pub concludedOf : Answer → Parsed
 concludedOf (Node e d) = Tree e

@@ -2,7 +2,7 @@
 use mathlib.Core.Path.{_≡_}
 use mathlib.Core.List.{List}
 use mathlib.Core.Option.{none, some}
-use Prim.Native.Nat.{ℕ, suc}
+use Prim.Native.Nat.{ℕ}
 use Rattle.lexer.specs.Marks.{plusSign, minusSign, closeSign}
 use Rattle.tree.specs.Tree.{Exp, neg, brackets, Cond, isOdd}
 use Rattle.tree.specs.Layout.{Node, Nodes, noMore, member}

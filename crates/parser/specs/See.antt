@@ -5,21 +5,28 @@ use mathlib.Core.Bool.{true, false}
 use Prim.Native.Nat.{ℕ, suc}
 use lib.Dec.{eqb}
 use Rattle.lexer.specs.Marks.{Mark}
-use Rattle.lexer.specs.Tokens.{Token as Word, token}
+use Rattle.numbers.specs.Panel.{badToken, literalTooBig, tokenMissing, tooManyTokens}
+use Rattle.lexer.specs.Tokens.{Token as Word, token, bad, tooBig, endOfText}
 use Rattle.lexer.specs.Cursor.{Cursor as Place, got, refuse, look}
-use Rattle.lexer.specs.Meaning.{sees, meaning, Inside}
-use Rattle.lexer.specs.Kinds.{kindOf, held}
+use Rattle.lexer.specs.Meaning.{Sight, sees, tooMany, meaning, Inside}
 use Rattle.lexer.specs.Stands.{Stands, taken, past, left}
 use Rattle.lexer.specs.declared.cursor.Cursor.{Cursor}
 use Rattle.parser.specs.declared.see.Seen.{Seen}
 use Rattle.parser.specs.declared.see.Seen.the-variants.{At, Refused}
 use Rattle.grammar.specs.Reader.{want}
 
+-- the number that looking is refused with, by what is seen; 0 where it is not
+abbrev pub refusalIn : Sight → ℕ
+refusalIn (sees (token t)) = 0
+refusalIn (sees bad) = badToken
+refusalIn (sees tooBig) = literalTooBig
+refusalIn (sees endOfText) = tokenMissing
+refusalIn tooMany = tooManyTokens
+
 -- the token w at the place k was looked at by a cursor that stood there as c, and stands there as d
 pub record Saw (src : List ℕ) (c d : Cursor) (k : Place) (w : Word) : Type 0 where
-  pub kind : d .kind ≡ kindOf (held d)
-  pub means : meaning src (held d) ≡ sees (token w)
-  pub inside : Inside src (held d)
+  pub means : meaning src (d .token) ≡ sees (token w)
+  pub inside : Inside src (d .token)
   pub looks : look src k ≡ got w k
   pub stands : Stands src d k
   pub beyond : Stands src (taken d) (past src k)

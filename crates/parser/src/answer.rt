@@ -8,7 +8,7 @@ ghost use Rattle.parser.specs.Quiet.{passedOf, quietedOf};
 pub enum Answer {
     Node(usize, Cursor),
     Nothing(Cursor),
-    Refused(u8),
+    Refused(usize),
 }
 
 // The cursor after a node or nothing.

@@ -83,7 +83,7 @@ fn parse_comparison(text: &[u8], tree: &mut [u32], used: usize, depth: usize, cu
     let Seen::At(d) = s else {
         return Answer::Refused(see::why(s));
     };
-    let t = d.token();
+    let t = d.token;
     let op = comparison(t);
     if op == NO_COMPARISON {
         return Answer::Refused(see::TOKEN_MISSING);

@@ -17,7 +17,7 @@ ghost use Rattle.parser.specs.See.{operatorOf};
 // How many constructs may be open at once, and the panel's number for one more.
 pub const MAX_OPEN: usize = 64;
 
-pub const TOO_MANY_OPEN: u8 = 7;
+pub const TOO_MANY_OPEN: usize = 7;
 
 // How the member after an operator joins what stands before it; 0 for what is no such operator.
 pub const NO_OP: u32 = 0;
@@ -179,7 +179,7 @@ pub fn parse_factor(
     let Seen::At(c) = s else {
         return Answer::Refused(see::why(s));
     };
-    let t = c.token();
+    let t = c.token;
     match t {
         Token::Identifier(at, n) => {
             Answer::Node(tree::push_name(tree, used, op, at, n), c.take())

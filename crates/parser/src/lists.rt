@@ -28,7 +28,7 @@ pub fn parse_id(text: &[u8], tree: &mut [u32], used: usize, cur: Cursor) -> Answ
     let Seen::At(c) = s else {
         return Answer::Refused(see::why(s));
     };
-    let t = c.token();
+    let t = c.token;
     let Token::Identifier(at, n) = t else {
         return Answer::Refused(see::TOKEN_MISSING);
     };
@@ -44,7 +44,7 @@ pub fn parse_integer(text: &[u8], tree: &mut [u32], used: usize, cur: Cursor) ->
     let Seen::At(c) = s else {
         return Answer::Refused(see::why(s));
     };
-    let t = c.token();
+    let t = c.token;
     let Token::Integer(v) = t else {
         return Answer::Refused(see::TOKEN_MISSING);
     };

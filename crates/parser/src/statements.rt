@@ -38,7 +38,7 @@ pub fn parse_statement(
     let Seen::At(c) = s else {
         return Answer::Refused(see::why(s));
     };
-    let t = c.token();
+    let t = c.token;
     match t {
         Token::Identifier(at, n) => parse_assign(text, tree, used, depth + 1, at, n, c.take()),
         Token::If => parse_if(text, tree, used, depth + 1, c.take()),

@@ -1,11 +1,9 @@
 use borrow.Author.Needs.{needs}
 use mathlib.Core.Path.{sym, ap}
+use native.Mathlib.Omega.{arith}
 use Rattle.parser.specs.Entry.{concludedOf}
-use borrow.Author.Needs.{needs}
 use Rattle.parser.proofs.concluded.Statement.{statement}
 use Rattle.parser.proofs.concluded.Tie as tie
-use Rattle.parser.proofs.concluded.Reads as reads
-use Rattle.parser.proofs.concluded.Lts as lts
 
 -- src/lib.rt:55:22
 enum-known-r : tie.Need-enum-known-r
@@ -18,6 +16,9 @@ enum-told c = search needs
 -- src/lib.rt:57:25
 enum-known-r-2 : tie.Need-enum-known-r-2
 enum-known-r-2 c = search needs
+
+cast-t5 : tie.Need-cast-t5
+cast-t5 c = let n = rw (c .before .r2 .given .1) at (c .before .before .before .pre) in omega (arith, n)
 
 -- src/lib.rt:51:1
 returns : tie.Need-returns
@@ -33,4 +34,4 @@ returns-3 c = sym (ap concludedOf (c .before .r2 .given .1))
 
 pub concluded-spec : {M : Type 1} → statement M
 concluded-spec =
-    tie.close (tie.spec enum-known-r enum-told enum-known-r-2 returns returns-2 returns-3)
+    tie.close (tie.spec enum-known-r enum-told enum-known-r-2 cast-t5 returns returns-2 returns-3)

@@ -1,14 +1,8 @@
 use borrow.Author.Needs.{needs}
 use native.Mathlib.Omega.{arith}
 use Rattle.parser.proofs.Entering.{parses-small, parses}
-use borrow.Author.Needs.{needs}
 use Rattle.parser.proofs.parse.Statement.{statement}
 use Rattle.parser.proofs.parse.Tie as tie
-use Rattle.parser.proofs.parse.Reads as reads
-use Rattle.parser.proofs.parse.Lts as lts
-use Rattle.numbers.proofs.room.clear.Reads as clear-reads
-use Rattle.parser.proofs.end_in.Reads as end-in-reads
-use Rattle.parser.proofs.read_tree.Reads as read-tree-reads
 
 -- src/lib.rt:102:9
 returns : tie.Need-returns

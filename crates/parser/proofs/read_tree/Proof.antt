@@ -3,16 +3,10 @@ use mathlib.Core.Path.{sym, _∙_}
 use native.Mathlib.Omega.{arith}
 use lib.ListN.{take}
 use lib.Seq.{length-take-le}
-use Rattle.parser.proofs.Entering.{room-start, reads-long, reads-bytes, reads}
-use borrow.Author.Needs.{needs}
+use Rattle.parser.proofs.Entering.{room-start, numbered, reads-long, reads-bytes, reads}
 use Rattle.parser.proofs.read_tree.Statement.{statement}
 use Rattle.parser.proofs.read_tree.Tie as tie
 use Rattle.parser.proofs.read_tree.Reads as reads
-use Rattle.parser.proofs.read_tree.Lts as lts
-use Rattle.lexer.proofs.cursor.Cursor.new.Reads as new-reads
-use Rattle.parser.proofs.concluded.Reads as concluded-reads
-use Rattle.parser.proofs.is_ascii.Reads as is-ascii-reads
-use Rattle.parser.proofs.procedures.parse_program.Reads as parse-program-reads
 
 -- src/lib.rt:88:9
 returns : tie.Need-returns
@@ -40,7 +34,7 @@ parse-program-requires c κs = rw (c .new .ensures) (room-start (c .before .befo
 
 -- src/lib.rt:92:9
 concluded-requires : tie.Need-concluded-requires
-concluded-requires c κs = search needs
+concluded-requires c κs = numbered _ _ (rw (c .before .before .before .new .ensures) at (c .before .before .parse-program .ensures))
 
 -- src/lib.rt:92:9
 same-length : tie.Need-same-length

@@ -8,7 +8,7 @@ use Rattle.lexer.specs.Stands.{left}
 use Rattle.tree.specs.Nodes.{expNode, listNodes}
 use Rattle.grammar.specs.Reader.{then}
 use Rattle.grammar.specs.Grammar as G
-use Rattle.parser.proofs.Answers.{refused, grew, made, room-after, passed, same-left, one-fewer}
+use Rattle.parser.proofs.Answers.{grew, made, room-after, passed, same-left, one-fewer}
 use Rattle.parser.proofs.Loops.{Going, going-start, going-room, going-more, going-refused, going-end}
 use Rattle.parser.proofs.Commas.{rest, member-more, member-refused, comma-stop, comma-turn, comma-end}
 use Rattle.parser.proofs.Plain.{argues-refused, argues-ended}

@@ -40,9 +40,6 @@ same-length-2 c = search needs
 returns-2 : tie.Need-returns-2
 returns-2 c = refused (compared-stop _ _ _ (c .before .before .before .before .before .before .before .before .before .parse-exp .ensures) (c .before .before .before .before .before .r .given .1) (c .before .before .before .see .ensures) (c .before .enum-told .given .1) (c .why .ensures))
 
-token-requires : tie.Need-token-requires
-token-requires c κs = search needs
-
 comparison-requires : tie.Need-comparison-requires
 comparison-requires c κs = search needs
 
@@ -50,15 +47,15 @@ same-length-3 : tie.Need-same-length-3
 same-length-3 c = search needs
 
 returns-3 : tie.Need-returns-3
-returns-3 c = refused (compared-none _ _ _ (c .before .before .before .before .before .before .before .before .before .before .before .before .parse-exp .ensures) (c .before .before .before .before .before .before .before .before .r .given .1) (c .before .before .before .before .before .before .see .ensures) (c .before .before .before .before .s .given .1) (c .before .before .token .ensures) (c .before .comparison .ensures) (c .if1 .taken))
+returns-3 c = refused (compared-none _ _ _ (c .before .before .before .before .before .before .before .before .before .before .before .parse-exp .ensures) (c .before .before .before .before .before .before .before .r .given .1) (c .before .before .before .before .before .see .ensures) (c .before .before .before .s .given .1) (c .before .comparison .ensures) (c .if1 .taken))
 
 take-requires : tie.Need-take-requires
 take-requires c κs = search needs
 
 parse-exp-requires-2 : tie.Need-parse-exp-requires-2
 parse-exp-requires-2 c κs =
-    let p = room-after (c .before .before .before .before .before .before .before .before .before .before .before .before .before .before .parse-exp .ensures) (c .before .before .before .before .before .before .before .before .before .before .r .given .1) {t = 0} (c .before .before .before .before .before .before .before .before .before .before .before .before .before .before .before .before .before .before .pre) (c .before .before .before .before .before .before .before .before .before .before .before .before .before .before .parse-exp .kept .1 .0) (omega arith) in
-    room-taken p (c .before .before .before .before .before .before .before .before .see .ensures) (c .before .before .before .before .before .before .s .given .1) (c .take .ensures) _ 8 (omega arith)
+    let p = room-after (c .before .before .before .before .before .before .before .before .before .before .before .before .before .parse-exp .ensures) (c .before .before .before .before .before .before .before .before .before .r .given .1) {t = 0} (c .before .before .before .before .before .before .before .before .before .before .before .before .before .before .before .before .before .pre) (c .before .before .before .before .before .before .before .before .before .before .before .before .before .parse-exp .kept .1 .0) (omega arith) in
+    room-taken p (c .before .before .before .before .before .before .before .see .ensures) (c .before .before .before .before .before .s .given .1) (c .take .ensures) _ 8 (omega arith)
 
 enum-known-q : tie.Need-enum-known-q
 enum-known-q c = search needs
@@ -68,27 +65,27 @@ same-length-4 c = search needs
 
 returns-4 : tie.Need-returns-4
 returns-4 c =
-    let p = room-after (c .before .before .before .before .before .before .before .before .before .before .before .before .before .before .before .before .before .before .parse-exp .ensures) (c .before .before .before .before .before .before .before .before .before .before .before .before .before .before .r .given .1) {t = 0} (c .before .before .before .before .before .before .before .before .before .before .before .before .before .before .before .before .before .before .before .before .before .before .pre) (c .before .before .before .before .before .before .before .before .before .before .before .before .before .before .before .before .before .before .parse-exp .kept .1 .0) (omega arith) in
-    let f = one-fewer p (c .before .before .before .before .before .before .before .before .before .before .before .before .see .ensures) (c .before .before .before .before .before .before .before .before .before .before .s .given .1) (c .before .before .before .before .take .ensures) in
-    passed (room-taken p (c .before .before .before .before .before .before .before .before .before .before .before .before .see .ensures) (c .before .before .before .before .before .before .before .before .before .before .s .given .1) (c .before .before .before .before .take .ensures) 0 0 (omega arith)) _ (c .before .before .before .parse-exp2 .ensures) (c .match3 .keys2)
-    (λ w z. compared-second _ _ _ (c .before .before .before .before .before .before .before .before .before .before .before .before .before .before .before .before .before .before .parse-exp .ensures) (c .before .before .before .before .before .before .before .before .before .before .before .before .before .before .r .given .1) (c .before .before .before .before .before .before .before .before .before .before .before .before .see .ensures) (c .before .before .before .before .before .before .before .before .before .before .s .given .1) (c .before .before .before .before .before .before .before .before .token .ensures) (c .before .before .before .before .before .before .before .comparison .ensures) (c .before .before .before .before .before .before .if1 .left) (c .before .before .before .before .take .ensures) (omega (arith, grew (c .before .before .before .before .before .before .before .before .before .before .before .before .before .before .before .before .before .before .parse-exp .ensures) (c .before .before .before .before .before .before .before .before .before .before .before .before .before .before .r .given .1) .fewer)) z)
+    let p = room-after (c .before .before .before .before .before .before .before .before .before .before .before .before .before .before .before .before .before .parse-exp .ensures) (c .before .before .before .before .before .before .before .before .before .before .before .before .before .r .given .1) {t = 0} (c .before .before .before .before .before .before .before .before .before .before .before .before .before .before .before .before .before .before .before .before .before .pre) (c .before .before .before .before .before .before .before .before .before .before .before .before .before .before .before .before .before .parse-exp .kept .1 .0) (omega arith) in
+    let f = one-fewer p (c .before .before .before .before .before .before .before .before .before .before .before .see .ensures) (c .before .before .before .before .before .before .before .before .before .s .given .1) (c .before .before .before .before .take .ensures) in
+    passed (room-taken p (c .before .before .before .before .before .before .before .before .before .before .before .see .ensures) (c .before .before .before .before .before .before .before .before .before .s .given .1) (c .before .before .before .before .take .ensures) 0 0 (omega arith)) _ (c .before .before .before .parse-exp2 .ensures) (c .match3 .keys2)
+    (λ w z. compared-second _ _ _ (c .before .before .before .before .before .before .before .before .before .before .before .before .before .before .before .before .before .parse-exp .ensures) (c .before .before .before .before .before .before .before .before .before .before .before .before .before .r .given .1) (c .before .before .before .before .before .before .before .before .before .before .before .see .ensures) (c .before .before .before .before .before .before .before .before .before .s .given .1) (c .before .before .before .before .before .before .before .comparison .ensures) (c .before .before .before .before .before .before .if1 .left) (c .before .before .before .before .take .ensures) (omega (arith, grew (c .before .before .before .before .before .before .before .before .before .before .before .before .before .before .before .before .before .parse-exp .ensures) (c .before .before .before .before .before .before .before .before .before .before .before .before .before .r .given .1) .fewer)) z)
 
 seal-requires : tie.Need-seal-requires
 seal-requires c κs =
-    let p = room-after (c .before .before .before .before .before .before .before .before .before .before .before .before .before .before .before .before .before .before .before .before .before .parse-exp .ensures) (c .before .before .before .before .before .before .before .before .before .before .before .before .before .before .before .before .before .r .given .1) {t = 0} (c .before .before .before .before .before .before .before .before .before .before .before .before .before .before .before .before .before .before .before .before .before .before .before .before .before .pre) (c .before .before .before .before .before .before .before .before .before .before .before .before .before .before .before .before .before .before .before .before .before .parse-exp .kept .1 .0) (omega arith) in
-    let f = one-fewer p (c .before .before .before .before .before .before .before .before .before .before .before .before .before .before .before .see .ensures) (c .before .before .before .before .before .before .before .before .before .before .before .before .before .s .given .1) (c .before .before .before .before .before .before .before .take .ensures) in
-    let g = grew (c .before .before .before .before .before .before .before .before .before .before .before .before .before .before .before .before .before .before .before .before .before .parse-exp .ensures) (c .before .before .before .before .before .before .before .before .before .before .before .before .before .before .before .before .before .r .given .1) in
+    let p = room-after (c .before .before .before .before .before .before .before .before .before .before .before .before .before .before .before .before .before .before .before .before .parse-exp .ensures) (c .before .before .before .before .before .before .before .before .before .before .before .before .before .before .before .before .r .given .1) {t = 0} (c .before .before .before .before .before .before .before .before .before .before .before .before .before .before .before .before .before .before .before .before .before .before .before .before .pre) (c .before .before .before .before .before .before .before .before .before .before .before .before .before .before .before .before .before .before .before .before .parse-exp .kept .1 .0) (omega arith) in
+    let f = one-fewer p (c .before .before .before .before .before .before .before .before .before .before .before .before .before .before .see .ensures) (c .before .before .before .before .before .before .before .before .before .before .before .before .s .given .1) (c .before .before .before .before .before .before .before .take .ensures) in
+    let g = grew (c .before .before .before .before .before .before .before .before .before .before .before .before .before .before .before .before .before .before .before .before .parse-exp .ensures) (c .before .before .before .before .before .before .before .before .before .before .before .before .before .before .before .before .r .given .1) in
     let h = grew (c .before .before .before .before .before .before .parse-exp2 .ensures) (c .before .before .q .given .1) in
     let k = c .before .before .before .before .before .before .parse-exp2 .kept .1 .0 in
     ((omega (arith, g .above, h .above), omega (arith, h .room, p .room)), (omega (arith, g .above, h .above), omega (arith, p .small)))
 
 same-length-5 : tie.Need-same-length-5
-same-length-5 c = c .before .before .seal .kept .0 ∙ c .before .before .before .before .before .before .before .before .before .parse-exp2 .kept .1 .0 ∙ c .before .before .before .before .before .before .before .before .before .before .before .before .before .before .before .before .before .before .before .before .before .before .before .before .parse-exp .kept .1 .0
+same-length-5 c = c .before .before .seal .kept .0 ∙ c .before .before .before .before .before .before .before .before .before .parse-exp2 .kept .1 .0 ∙ c .before .before .before .before .before .before .before .before .before .before .before .before .before .before .before .before .before .before .before .before .before .before .before .parse-exp .kept .1 .0
 
 returns-5 : tie.Need-returns-5
 returns-5 c =
-    let p = room-after (c .before .before .before .before .before .before .before .before .before .before .before .before .before .before .before .before .before .before .before .before .before .before .before .before .parse-exp .ensures) (c .before .before .before .before .before .before .before .before .before .before .before .before .before .before .before .before .before .before .before .before .r .given .1) {t = 0} (c .before .before .before .before .before .before .before .before .before .before .before .before .before .before .before .before .before .before .before .before .before .before .before .before .before .before .before .before .pre) (c .before .before .before .before .before .before .before .before .before .before .before .before .before .before .before .before .before .before .before .before .before .before .before .before .parse-exp .kept .1 .0) (omega arith) in
-    compared-done _ _ _ (c .before .before .before .before .before .before .before .before .before .before .before .before .before .before .before .before .before .before .before .before .before .before .before .before .parse-exp .ensures) (c .before .before .before .before .before .before .before .before .before .before .before .before .before .before .before .before .before .before .before .before .r .given .1) (c .before .before .before .before .before .before .before .before .before .before .before .before .before .before .before .before .before .before .see .ensures) (c .before .before .before .before .before .before .before .before .before .before .before .before .before .before .before .before .s .given .1) (c .before .before .before .before .before .before .before .before .before .before .before .before .before .before .token .ensures) (c .before .before .before .before .before .before .before .before .before .before .before .before .before .comparison .ensures) (c .before .before .before .before .before .before .before .before .before .before .before .before .if1 .left) (c .before .before .before .before .before .before .before .before .before .before .take .ensures) (one-fewer p (c .before .before .before .before .before .before .before .before .before .before .before .before .before .before .before .before .before .before .see .ensures) (c .before .before .before .before .before .before .before .before .before .before .before .before .before .before .before .before .s .given .1) (c .before .before .before .before .before .before .before .before .before .before .take .ensures)) (c .before .before .before .before .before .before .before .before .before .parse-exp2 .ensures) (c .before .before .before .before .before .q .given .1) (c .before .before .seal .ensures)
+    let p = room-after (c .before .before .before .before .before .before .before .before .before .before .before .before .before .before .before .before .before .before .before .before .before .before .before .parse-exp .ensures) (c .before .before .before .before .before .before .before .before .before .before .before .before .before .before .before .before .before .before .before .r .given .1) {t = 0} (c .before .before .before .before .before .before .before .before .before .before .before .before .before .before .before .before .before .before .before .before .before .before .before .before .before .before .before .pre) (c .before .before .before .before .before .before .before .before .before .before .before .before .before .before .before .before .before .before .before .before .before .before .before .parse-exp .kept .1 .0) (omega arith) in
+    compared-done _ _ _ (c .before .before .before .before .before .before .before .before .before .before .before .before .before .before .before .before .before .before .before .before .before .before .before .parse-exp .ensures) (c .before .before .before .before .before .before .before .before .before .before .before .before .before .before .before .before .before .before .before .r .given .1) (c .before .before .before .before .before .before .before .before .before .before .before .before .before .before .before .before .before .see .ensures) (c .before .before .before .before .before .before .before .before .before .before .before .before .before .before .before .s .given .1) (c .before .before .before .before .before .before .before .before .before .before .before .before .before .comparison .ensures) (c .before .before .before .before .before .before .before .before .before .before .before .before .if1 .left) (c .before .before .before .before .before .before .before .before .before .before .take .ensures) (one-fewer p (c .before .before .before .before .before .before .before .before .before .before .before .before .before .before .before .before .before .see .ensures) (c .before .before .before .before .before .before .before .before .before .before .before .before .before .before .before .s .given .1) (c .before .before .before .before .before .before .before .before .before .before .take .ensures)) (c .before .before .before .before .before .before .before .before .before .parse-exp2 .ensures) (c .before .before .before .before .before .q .given .1) (c .before .before .seal .ensures)
 
 pub parse-comparison-spec : {M : Type 1} → statement M
 parse-comparison-spec =
@@ -105,7 +102,6 @@ parse-comparison-spec =
     why-requires
     same-length-2
     returns-2
-    token-requires
     comparison-requires
     same-length-3
     returns-3

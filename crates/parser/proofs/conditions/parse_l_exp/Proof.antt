@@ -1,5 +1,5 @@
 -- `conditions::parse_l_exp` meets its contract.
-use mathlib.Core.Path.{refl, sym, _∙_}
+use mathlib.Core.Path.{sym, _∙_}
 use native.Mathlib.Omega.{arith}
 use Rattle.lexer.specs.Marks.{placeOf}
 use Rattle.parser.proofs.Answers.{refused, moved, room-seen, same-left, room-taken, one-fewer}

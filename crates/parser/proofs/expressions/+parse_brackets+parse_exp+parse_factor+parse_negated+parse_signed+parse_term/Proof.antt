@@ -1,6 +1,6 @@
 -- The proof of the cycle of calls of the readers of expressions. Each member's measure is eight times the tokens left, and its rank.
 use borrow.Author.Needs.{needs}
-use mathlib.Core.Path.{_≡_, refl, sym, ap, _∙_}
+use mathlib.Core.Path.{refl, sym, ap, _∙_}
 use Prim.Native.Nat.{_+_, _*_}
 use native.Mathlib.Omega.{arith}
 use Rattle.lexer.specs.Marks.{closeSign, placeOf}
@@ -9,7 +9,7 @@ use Rattle.parser.specs.See.{operatorOf}
 use Rattle.tree.specs.Nodes.{chainNodes}
 use Rattle.grammar.specs.Grammar as G
 use Rattle.parser.proofs.Operators.{op-is-none}
-use Rattle.parser.proofs.Answers.{refused, grew, made, room-after, passed, moved, room-at, room-seen, same-left, room-taken, one-fewer, wanted-fewer}
+use Rattle.parser.proofs.Answers.{refused, grew, room-after, passed, moved, room-at, room-seen, same-left, room-taken, one-fewer, wanted-fewer}
 use Rattle.parser.proofs.Loops.{Going, going-start, going-room, going-more, going-refused, going-end}
 use Rattle.parser.proofs.Seeing.{saw}
 use Rattle.parser.proofs.Leaves.{literal-of, literal-pos}
@@ -37,7 +37,6 @@ use Rattle.parser.proofs.expressions.parse_term.Reads as parse-term
 use Rattle.parser.proofs.expressions.parse_term.Kinds as parse-term-kinds
 use Rattle.parser.proofs.expressions.+parse_brackets+parse_exp+parse_factor+parse_negated+parse_signed+parse_term.Lts-parse_term as parse-term-lts
 use Rattle.lexer.proofs.cursor.Cursor.take.Reads as take-reads
-use Rattle.lexer.proofs.cursor.Cursor.token.Reads as token-reads
 use Rattle.parser.proofs.expressions.product_op.Reads as product-op-reads
 use Rattle.parser.proofs.expressions.sum_op.Reads as sum-op-reads
 use Rattle.parser.proofs.nodes.seal.Reads as seal-reads
@@ -269,8 +268,6 @@ unfolding placeOf
       see-reads.Learnt,
       why-reads.Asked,
       why-reads.Learnt,
-      token-reads.Asked,
-      token-reads.Learnt,
       push-name-reads.Asked,
       push-name-reads.Learnt,
       take-reads.Asked,
@@ -287,36 +284,35 @@ unfolding placeOf
     (λ c. search needs)
     (λ c κs. search needs)
     (λ c. refused (factor-refused _ _ (c .before .before .before .see .ensures) (c .before .enum-told .given .1) (c .why .ensures)))
+    (λ c. search needs)
+    (λ c κs. let w = saw (c .before .before .before .before .before .before .before .see .ensures) (c .before .before .before .before .before .s .given .1) (c .before .before .before .before .before .before .before .before .before .before .pre .1 .place) (c .before .before .before .before .before .before .before .before .before .before .pre .1 .stands) .1 in
+    let i = w .inside _ _ (c .before .before .t .given .1) in
+    (omega (arith, c .before .before .before .before .before .before .before .before .before .before .pre .1 .room, w .fewer), (omega (arith, i, c .before .before .before .before .before .before .before .before .before .before .pre .1 .short), omega (arith, i, c .before .before .before .before .before .before .before .before .before .before .pre .1 .short))))
     (λ c κs. search needs)
     (λ c. search needs)
-    (λ c κs. let w = saw (c .before .before .before .before .before .before .before .before .see .ensures) (c .before .before .before .before .before .before .s .given .1) (c .before .before .before .before .before .before .before .before .before .before .before .pre .1 .place) (c .before .before .before .before .before .before .before .before .before .before .before .pre .1 .stands) .1 in
-    let i = w .inside _ _ (sym (c .before .before .before .before .token .ensures) ∙ c .before .before .t .given .1) in
-    (omega (arith, c .before .before .before .before .before .before .before .before .before .before .before .pre .1 .room, w .fewer), (omega (arith, i, c .before .before .before .before .before .before .before .before .before .before .before .pre .1 .short), omega (arith, i, c .before .before .before .before .before .before .before .before .before .before .before .pre .1 .short))))
+    (λ c. let w = saw (c .before .before .before .before .before .before .before .see .ensures) (c .before .before .before .before .before .s .given .1) (c .before .before .before .before .before .before .before .before .before .before .pre .1 .place) (c .before .before .before .before .before .before .before .before .before .before .pre .1 .stands) .1 in
+    omega (arith, literal-of w _ (c .before .before .t2 .given .1) .0))
+    (λ c κs. let w = saw (c .before .before .before .before .before .before .before .see .ensures) (c .before .before .before .before .before .s .given .1) (c .before .before .before .before .before .before .before .before .before .before .pre .1 .place) (c .before .before .before .before .before .before .before .before .before .before .pre .1 .stands) .1 in
+    let z = literal-of w _ (c .before .before .t2 .given .1) in
+    (omega (arith, c .before .before .before .before .before .before .before .before .before .before .pre .1 .room, w .fewer), (_, literal-pos (z .0))))
     (λ c κs. search needs)
     (λ c. search needs)
-    (λ c. let w = saw (c .before .before .before .before .before .before .before .before .see .ensures) (c .before .before .before .before .before .before .s .given .1) (c .before .before .before .before .before .before .before .before .before .before .before .pre .1 .place) (c .before .before .before .before .before .before .before .before .before .before .before .pre .1 .stands) .1 in
-    omega (arith, literal-of w _ (sym (c .before .before .before .before .token .ensures) ∙ c .before .before .t2 .given .1) .0))
-    (λ c κs. let w = saw (c .before .before .before .before .before .before .before .before .see .ensures) (c .before .before .before .before .before .before .s .given .1) (c .before .before .before .before .before .before .before .before .before .before .before .pre .1 .place) (c .before .before .before .before .before .before .before .before .before .before .before .pre .1 .stands) .1 in
-    let z = literal-of w _ (sym (c .before .before .before .before .token .ensures) ∙ c .before .before .t2 .given .1) in
-    (omega (arith, c .before .before .before .before .before .before .before .before .before .before .before .pre .1 .room, w .fewer), (_, literal-pos (z .0))))
+    (λ c. omega (arith, c .before .before .before .before .before .before .before .before .before .before .pre .1 .room, c .before .before .before .before .before .before .before .before .before .before .pre .1 .small))
     (λ c κs. search needs)
+    (λ c κs. (omega (arith, c .before .before .before .before .before .before .before .before .before .before .before .pre .0, one-fewer (c .before .before .before .before .before .before .before .before .before .before .before .pre .1) (c .before .before .before .before .before .before .before .before .see .ensures) (c .before .before .before .before .before .before .s .given .1) (c .take3 .ensures)), room-taken (c .before .before .before .before .before .before .before .before .before .before .before .pre .1) (c .before .before .before .before .before .before .before .before .see .ensures) (c .before .before .before .before .before .before .s .given .1) (c .take3 .ensures) _ 12 (omega arith)))
     (λ c. search needs)
-    (λ c. omega (arith, c .before .before .before .before .before .before .before .before .before .before .before .pre .1 .room, c .before .before .before .before .before .before .before .before .before .before .before .pre .1 .small))
-    (λ c κs. search needs)
-    (λ c κs. (omega (arith, c .before .before .before .before .before .before .before .before .before .before .before .before .pre .0, one-fewer (c .before .before .before .before .before .before .before .before .before .before .before .before .pre .1) (c .before .before .before .before .before .before .before .before .before .see .ensures) (c .before .before .before .before .before .before .before .s .given .1) (c .take3 .ensures)), room-taken (c .before .before .before .before .before .before .before .before .before .before .before .before .pre .1) (c .before .before .before .before .before .before .before .before .before .see .ensures) (c .before .before .before .before .before .before .before .s .given .1) (c .take3 .ensures) _ 12 (omega arith)))
+    (λ c. let w = saw (c .before .before .before .before .before .before .before .before .before .before .before .see .ensures) (c .before .before .before .before .before .before .before .before .before .s .given .1) (c .before .before .before .before .before .before .before .before .before .before .before .before .before .before .pre .1 .place) (c .before .before .before .before .before .before .before .before .before .before .before .before .before .before .pre .1 .stands) .1 in
+    let e = c .before .before .before .before .before .before .t .given .1 in
+    factor-name _ _ (c .before .before .before .before .before .before .before .before .before .before .before .see .ensures) (c .before .before .before .before .before .before .before .before .before .s .given .1) (c .take .ensures) (one-fewer (c .before .before .before .before .before .before .before .before .before .before .before .before .before .before .pre .1) (c .before .before .before .before .before .before .before .before .before .before .before .see .ensures) (c .before .before .before .before .before .before .before .before .before .s .given .1) (c .take .ensures)) (omega (arith, c .before .before .before .before .before .before .before .before .before .before .before .before .before .before .pre .1 .room)) (c .before .before .before .push-name .ensures .0) _ _ _ e (w .inside _ _ e) (c .before .before .before .push-name .ensures .1))
     (λ c. search needs)
-    (λ c. let w = saw (c .before .before .before .before .before .before .before .before .before .before .before .before .see .ensures) (c .before .before .before .before .before .before .before .before .before .before .s .given .1) (c .before .before .before .before .before .before .before .before .before .before .before .before .before .before .before .pre .1 .place) (c .before .before .before .before .before .before .before .before .before .before .before .before .before .before .before .pre .1 .stands) .1 in
-    let e = sym (c .before .before .before .before .before .before .before .before .token .ensures) ∙ c .before .before .before .before .before .before .t .given .1 in
-    factor-name _ _ (c .before .before .before .before .before .before .before .before .before .before .before .before .see .ensures) (c .before .before .before .before .before .before .before .before .before .before .s .given .1) (c .take .ensures) (one-fewer (c .before .before .before .before .before .before .before .before .before .before .before .before .before .before .before .pre .1) (c .before .before .before .before .before .before .before .before .before .before .before .before .see .ensures) (c .before .before .before .before .before .before .before .before .before .before .s .given .1) (c .take .ensures)) (omega (arith, c .before .before .before .before .before .before .before .before .before .before .before .before .before .before .before .pre .1 .room)) (c .before .before .before .push-name .ensures .0) _ _ _ e (w .inside _ _ e) (c .before .before .before .push-name .ensures .1))
+    (λ c. let w = saw (c .before .before .before .before .before .before .before .before .before .before .before .see .ensures) (c .before .before .before .before .before .before .before .before .before .s .given .1) (c .before .before .before .before .before .before .before .before .before .before .before .before .before .before .pre .1 .place) (c .before .before .before .before .before .before .before .before .before .before .before .before .before .before .pre .1 .stands) .1 in
+    let e = c .before .before .before .before .before .before .t2 .given .1 in
+    factor-number _ _ (c .before .before .before .before .before .before .before .before .before .before .before .see .ensures) (c .before .before .before .before .before .before .before .before .before .s .given .1) (c .take2 .ensures) (one-fewer (c .before .before .before .before .before .before .before .before .before .before .before .before .before .before .pre .1) (c .before .before .before .before .before .before .before .before .before .before .before .see .ensures) (c .before .before .before .before .before .before .before .before .before .s .given .1) (c .take2 .ensures)) (omega (arith, c .before .before .before .before .before .before .before .before .before .before .before .before .before .before .pre .1 .room)) (c .before .before .before .push-number .ensures .0) _ _ e (c .before .before .before .push-number .ensures .1 _ (literal-pos (literal-of w _ e .0))))
     (λ c. search needs)
-    (λ c. let w = saw (c .before .before .before .before .before .before .before .before .before .before .before .before .see .ensures) (c .before .before .before .before .before .before .before .before .before .before .s .given .1) (c .before .before .before .before .before .before .before .before .before .before .before .before .before .before .before .pre .1 .place) (c .before .before .before .before .before .before .before .before .before .before .before .before .before .before .before .pre .1 .stands) .1 in
-    let e = sym (c .before .before .before .before .before .before .before .before .token .ensures) ∙ c .before .before .before .before .before .before .t2 .given .1 in
-    factor-number _ _ (c .before .before .before .before .before .before .before .before .before .before .before .before .see .ensures) (c .before .before .before .before .before .before .before .before .before .before .s .given .1) (c .take2 .ensures) (one-fewer (c .before .before .before .before .before .before .before .before .before .before .before .before .before .before .before .pre .1) (c .before .before .before .before .before .before .before .before .before .before .before .before .see .ensures) (c .before .before .before .before .before .before .before .before .before .before .s .given .1) (c .take2 .ensures)) (omega (arith, c .before .before .before .before .before .before .before .before .before .before .before .before .before .before .before .pre .1 .room)) (c .before .before .before .push-number .ensures .0) _ _ e (c .before .before .before .push-number .ensures .1 _ (literal-pos (literal-of w _ e .0))))
-    (λ c. search needs)
-    (λ c. let f = one-fewer (c .before .before .before .before .before .before .before .before .before .before .before .before .before .before .before .pre .1) (c .before .before .before .before .before .before .before .before .before .before .before .before .see .ensures) (c .before .before .before .before .before .before .before .before .before .before .s .given .1) (c .before .before .before .take3 .ensures) in
-    moved _ (omega arith) (omega arith) (factor-open _ _ (c .before .before .before .before .before .before .before .before .before .before .before .before .see .ensures) (c .before .before .before .before .before .before .before .before .before .before .s .given .1) (sym (c .before .before .before .before .before .before .before .before .token .ensures) ∙ c .before .before .before .before .before .before .enum-told2 .given .1) (c .before .before .before .take3 .ensures) (c .before .before .before .before .before .if1 .taken) _ (omega arith)) (c .before .before .parse-brackets .ensures))
-    (λ c. refused (factor-deep _ _ (c .before .before .before .before .before .before .before .see .ensures) (c .before .before .before .before .before .s .given .1) (sym (c .before .before .before .token .ensures) ∙ c .before .enum-told2 .given .1) (c .if1 .left)))
-    (λ c. refused (factor-other _ _ (c .before .before .before .before .before .see .ensures) (c .before .before .before .s .given .1) (c .before .token .ensures) (c .match2 .keys4))))
+    (λ c. let f = one-fewer (c .before .before .before .before .before .before .before .before .before .before .before .before .before .before .pre .1) (c .before .before .before .before .before .before .before .before .before .before .before .see .ensures) (c .before .before .before .before .before .before .before .before .before .s .given .1) (c .before .before .before .take3 .ensures) in
+    moved _ (omega arith) (omega arith) (factor-open _ _ (c .before .before .before .before .before .before .before .before .before .before .before .see .ensures) (c .before .before .before .before .before .before .before .before .before .s .given .1) (c .before .before .before .before .before .before .enum-told2 .given .1) (c .before .before .before .take3 .ensures) (c .before .before .before .before .before .if1 .taken) _ (omega arith)) (c .before .before .parse-brackets .ensures))
+    (λ c. refused (factor-deep _ _ (c .before .before .before .before .before .before .see .ensures) (c .before .before .before .before .s .given .1) (c .before .enum-told2 .given .1) (c .if1 .left)))
+    (λ c. refused (factor-other _ _ (c .before .before .before .before .see .ensures) (c .before .before .s .given .1) (c .match2 .keys4))))
     (λ t. parse-negated-lts.spec (
       parse-term-below t,
       parse-term.Post,

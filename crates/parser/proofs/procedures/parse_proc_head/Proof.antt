@@ -4,15 +4,8 @@ use native.Mathlib.Omega.{arith}
 use Rattle.lexer.specs.Marks.{procedureWord, openSign, semicolonSign, placeOf}
 use Rattle.parser.proofs.Answers.{refused, grew, room-after, passed, room-took, wanted-fewer}
 use Rattle.parser.proofs.Procs.{head-stop, head-name, head-open, head-args, head-end, head-done}
-use borrow.Author.Needs.{needs}
 use Rattle.parser.proofs.procedures.parse_proc_head.Statement.{statement}
 use Rattle.parser.proofs.procedures.parse_proc_head.Tie as tie
-use Rattle.parser.proofs.procedures.parse_proc_head.Reads as reads
-use Rattle.parser.proofs.procedures.parse_proc_head.Lts as lts
-use Rattle.parser.proofs.declarations.parse_args.Reads as parse-args-reads
-use Rattle.parser.proofs.lists.parse_id.Reads as parse-id-reads
-use Rattle.parser.proofs.see.want.Reads as want-reads
-use Rattle.parser.proofs.see.why.Reads as why-reads
 
 -- src/procedures.rt:27:9
 want-requires : tie.Need-want-requires

@@ -2,7 +2,7 @@ use borrow.Author.Needs.{needs}
 use mathlib.Core.Path.{refl, _∙_}
 use native.Mathlib.Omega.{arith}
 use Rattle.lexer.specs.Marks.{programWord, semicolonSign, placeOf}
-use Rattle.parser.proofs.Answers.{refused, grew, room-after, passed, moved, room-at, room-took, wanted-fewer}
+use Rattle.parser.proofs.Answers.{refused, grew, room-after, passed, moved, room-took, wanted-fewer}
 use Rattle.parser.proofs.Procs.{program-stop, program-name, program-end, program-block, from-start}
 use Rattle.parser.proofs.procedures.parse_program.Statement.{statement}
 use Rattle.parser.proofs.procedures.parse_program.Tie as tie

@@ -1,5 +1,5 @@
 -- `simple::parse_assign` meets its contract.
-use mathlib.Core.Path.{refl, ap, _∙_}
+use mathlib.Core.Path.{refl}
 use Prim.Native.Nat.{_+_}
 use native.Mathlib.Omega.{arith}
 use Rattle.lexer.specs.Marks.{becomesSign, placeOf}

@@ -1,6 +1,5 @@
 -- `simple::parse_write` meets its contract.
 use mathlib.Core.Path.{refl}
-use Prim.Native.Nat.{_+_}
 use native.Mathlib.Omega.{arith}
 use Rattle.lexer.specs.Marks.{openSign, placeOf}
 use Rattle.tree.specs.Tree.{writeS}

@@ -1,6 +1,6 @@
 -- The proof of the cycle of calls of the readers of statements. Each member's measure is eight times the tokens left, and its rank.
 use borrow.Author.Needs.{needs}
-use mathlib.Core.Path.{refl, sym, ap, _∙_}
+use mathlib.Core.Path.{refl, sym, _∙_}
 use Prim.Native.Nat.{_+_, _*_}
 use native.Mathlib.Omega.{arith}
 use Rattle.lexer.specs.Marks.{thenWord, doWord, beginWord, endWord, placeOf}
@@ -36,7 +36,6 @@ use Rattle.parser.proofs.statements.read_on.Reads as read-on
 use Rattle.parser.proofs.statements.read_on.Kinds as read-on-kinds
 use Rattle.parser.proofs.statements.+parse_body+parse_else_part+parse_if+parse_statement+parse_statements+parse_while+read_on.Lts-read_on as read-on-lts
 use Rattle.lexer.proofs.cursor.Cursor.take.Reads as take-reads
-use Rattle.lexer.proofs.cursor.Cursor.token.Reads as token-reads
 use Rattle.parser.proofs.answer.passed.Reads as passed-reads
 use Rattle.parser.proofs.answer.quieted.Reads as quieted-reads
 use Rattle.parser.proofs.conditions.parse_l_exp.Reads as parse-l-exp-reads
@@ -349,8 +348,6 @@ unfolding placeOf
       see-reads.Learnt,
       why-reads.Asked,
       why-reads.Learnt,
-      token-reads.Asked,
-      token-reads.Learnt,
       take-reads.Asked,
       take-reads.Learnt,
       parse-assign-reads.Asked,
@@ -376,55 +373,54 @@ unfolding placeOf
     (λ c. search needs)
     (λ c κs. search needs)
     (λ c. refused (stmt-refused _ _ (c .before .before .before .before .if1 .left) (c .before .before .before .see .ensures) (c .before .enum-told .given .1) (c .why .ensures)))
-    (λ c κs. search needs)
     (λ c. search needs)
     (λ c. search needs)
     (λ c κs. search needs)
-    (λ c κs. (room-taken (c .before .before .before .before .before .before .before .before .before .before .before .before .before .pre .1) (c .before .before .before .before .before .before .before .before .before .see .ensures) (c .before .before .before .before .before .before .before .s .given .1) (c .take .ensures) _ 16 (omega arith), saw (c .before .before .before .before .before .before .before .before .before .see .ensures) (c .before .before .before .before .before .before .before .s .given .1) (c .before .before .before .before .before .before .before .before .before .before .before .before .before .pre .1 .place) (c .before .before .before .before .before .before .before .before .before .before .before .before .before .pre .1 .stands) .1 .inside _ _ (sym (c .before .before .before .before .before .token .ensures) ∙ c .before .before .before .t .given .1)))
+    (λ c κs. (room-taken (c .before .before .before .before .before .before .before .before .before .before .before .before .pre .1) (c .before .before .before .before .before .before .before .before .see .ensures) (c .before .before .before .before .before .before .s .given .1) (c .take .ensures) _ 16 (omega arith), saw (c .before .before .before .before .before .before .before .before .see .ensures) (c .before .before .before .before .before .before .s .given .1) (c .before .before .before .before .before .before .before .before .before .before .before .before .pre .1 .place) (c .before .before .before .before .before .before .before .before .before .before .before .before .pre .1 .stands) .1 .inside _ _ (c .before .before .before .t .given .1)))
     (λ c. search needs)
     (λ c. search needs)
     (λ c κs. search needs)
-    (λ c κs. (omega (arith, c .before .before .before .before .before .before .before .before .before .before .before .before .pre .0, one-fewer (c .before .before .before .before .before .before .before .before .before .before .before .before .pre .1) (c .before .before .before .before .before .before .before .before .see .ensures) (c .before .before .before .before .before .before .s .given .1) (c .take2 .ensures)), room-taken (c .before .before .before .before .before .before .before .before .before .before .before .before .pre .1) (c .before .before .before .before .before .before .before .before .see .ensures) (c .before .before .before .before .before .before .s .given .1) (c .take2 .ensures) _ 16 (omega arith)))
+    (λ c κs. (omega (arith, c .before .before .before .before .before .before .before .before .before .before .before .pre .0, one-fewer (c .before .before .before .before .before .before .before .before .before .before .before .pre .1) (c .before .before .before .before .before .before .before .see .ensures) (c .before .before .before .before .before .s .given .1) (c .take2 .ensures)), room-taken (c .before .before .before .before .before .before .before .before .before .before .before .pre .1) (c .before .before .before .before .before .before .before .see .ensures) (c .before .before .before .before .before .s .given .1) (c .take2 .ensures) _ 16 (omega arith)))
     (λ c. search needs)
     (λ c. search needs)
     (λ c κs. search needs)
-    (λ c κs. (omega (arith, c .before .before .before .before .before .before .before .before .before .before .before .before .pre .0, one-fewer (c .before .before .before .before .before .before .before .before .before .before .before .before .pre .1) (c .before .before .before .before .before .before .before .before .see .ensures) (c .before .before .before .before .before .before .s .given .1) (c .take3 .ensures)), room-taken (c .before .before .before .before .before .before .before .before .before .before .before .before .pre .1) (c .before .before .before .before .before .before .before .before .see .ensures) (c .before .before .before .before .before .before .s .given .1) (c .take3 .ensures) _ 16 (omega arith)))
+    (λ c κs. (omega (arith, c .before .before .before .before .before .before .before .before .before .before .before .pre .0, one-fewer (c .before .before .before .before .before .before .before .before .before .before .before .pre .1) (c .before .before .before .before .before .before .before .see .ensures) (c .before .before .before .before .before .s .given .1) (c .take3 .ensures)), room-taken (c .before .before .before .before .before .before .before .before .before .before .before .pre .1) (c .before .before .before .before .before .before .before .see .ensures) (c .before .before .before .before .before .s .given .1) (c .take3 .ensures) _ 16 (omega arith)))
     (λ c. search needs)
     (λ c. search needs)
     (λ c κs. search needs)
-    (λ c κs. room-taken (c .before .before .before .before .before .before .before .before .before .before .before .before .pre .1) (c .before .before .before .before .before .before .before .before .see .ensures) (c .before .before .before .before .before .before .s .given .1) (c .take4 .ensures) _ 16 (omega arith))
+    (λ c κs. room-taken (c .before .before .before .before .before .before .before .before .before .before .before .pre .1) (c .before .before .before .before .before .before .before .see .ensures) (c .before .before .before .before .before .s .given .1) (c .take4 .ensures) _ 16 (omega arith))
     (λ c. search needs)
     (λ c. search needs)
-    (λ c κs. (omega (arith, c .before .before .before .before .before .before .before .before .before .before .before .pre .0, same-left (c .before .before .before .before .before .before .before .before .before .before .before .pre .1) (c .before .before .before .before .before .before .before .see .ensures) (c .before .before .before .before .before .s .given .1)), room-seen (c .before .before .before .before .before .before .before .before .before .before .before .pre .1) (c .before .before .before .before .before .before .before .see .ensures) (c .before .before .before .before .before .s .given .1)))
-    (λ c. search needs)
-    (λ c. search needs)
-    (λ c κs. search needs)
-    (λ c κs. room-taken (c .before .before .before .before .before .before .before .before .before .before .before .before .pre .1) (c .before .before .before .before .before .before .before .before .see .ensures) (c .before .before .before .before .before .before .s .given .1) (c .take5 .ensures) _ 16 (omega arith))
+    (λ c κs. (omega (arith, c .before .before .before .before .before .before .before .before .before .before .pre .0, same-left (c .before .before .before .before .before .before .before .before .before .before .pre .1) (c .before .before .before .before .before .before .see .ensures) (c .before .before .before .before .s .given .1)), room-seen (c .before .before .before .before .before .before .before .before .before .before .pre .1) (c .before .before .before .before .before .before .see .ensures) (c .before .before .before .before .s .given .1)))
     (λ c. search needs)
     (λ c. search needs)
     (λ c κs. search needs)
-    (λ c κs. room-taken (c .before .before .before .before .before .before .before .before .before .before .before .before .pre .1) (c .before .before .before .before .before .before .before .before .see .ensures) (c .before .before .before .before .before .before .s .given .1) (c .take6 .ensures) _ 16 (omega arith))
+    (λ c κs. room-taken (c .before .before .before .before .before .before .before .before .before .before .before .pre .1) (c .before .before .before .before .before .before .before .see .ensures) (c .before .before .before .before .before .s .given .1) (c .take5 .ensures) _ 16 (omega arith))
     (λ c. search needs)
-    (λ c. let f = one-fewer (c .before .before .before .before .before .before .before .before .before .before .before .before .before .before .before .before .pre .1) (c .before .before .before .before .before .before .before .before .before .before .before .before .see .ensures) (c .before .before .before .before .before .before .before .before .before .before .s .given .1) (c .before .before .before .take .ensures) in
-    moved _ (omega arith) (omega arith) (assign-arm _ _ (c .before .before .before .before .before .before .before .before .before .before .before .before .before .if1 .left) (c .before .before .before .before .before .before .before .before .before .before .before .before .see .ensures) (c .before .before .before .before .before .before .before .before .before .before .s .given .1) _ _ (sym (c .before .before .before .before .before .before .before .before .token .ensures) ∙ c .before .before .before .before .before .before .t .given .1) (c .before .before .before .take .ensures) _ (omega arith)) (c .before .before .parse-assign .ensures))
     (λ c. search needs)
-    (λ c. let f = one-fewer (c .before .before .before .before .before .before .before .before .before .before .before .before .before .before .before .pre .1) (c .before .before .before .before .before .before .before .before .before .before .before .see .ensures) (c .before .before .before .before .before .before .before .before .before .s .given .1) (c .before .before .before .take2 .ensures) in
-    moved _ (omega arith) (omega arith) (if-arm _ _ (c .before .before .before .before .before .before .before .before .before .before .before .before .if1 .left) (c .before .before .before .before .before .before .before .before .before .before .before .see .ensures) (c .before .before .before .before .before .before .before .before .before .s .given .1) (sym (c .before .before .before .before .before .before .before .token .ensures) ∙ c .before .before .before .before .before .enum-told2 .given .1) (c .before .before .before .take2 .ensures) _ (omega arith)) (c .before .before .parse-if .ensures))
+    (λ c κs. search needs)
+    (λ c κs. room-taken (c .before .before .before .before .before .before .before .before .before .before .before .pre .1) (c .before .before .before .before .before .before .before .see .ensures) (c .before .before .before .before .before .s .given .1) (c .take6 .ensures) _ 16 (omega arith))
     (λ c. search needs)
-    (λ c. let f = one-fewer (c .before .before .before .before .before .before .before .before .before .before .before .before .before .before .before .pre .1) (c .before .before .before .before .before .before .before .before .before .before .before .see .ensures) (c .before .before .before .before .before .before .before .before .before .s .given .1) (c .before .before .before .take3 .ensures) in
-    moved _ (omega arith) (omega arith) (while-arm _ _ (c .before .before .before .before .before .before .before .before .before .before .before .before .if1 .left) (c .before .before .before .before .before .before .before .before .before .before .before .see .ensures) (c .before .before .before .before .before .before .before .before .before .s .given .1) (sym (c .before .before .before .before .before .before .before .token .ensures) ∙ c .before .before .before .before .before .enum-told3 .given .1) (c .before .before .before .take3 .ensures) _ (omega arith)) (c .before .before .parse-while .ensures))
+    (λ c. let f = one-fewer (c .before .before .before .before .before .before .before .before .before .before .before .before .before .before .before .pre .1) (c .before .before .before .before .before .before .before .before .before .before .before .see .ensures) (c .before .before .before .before .before .before .before .before .before .s .given .1) (c .before .before .before .take .ensures) in
+    moved _ (omega arith) (omega arith) (assign-arm _ _ (c .before .before .before .before .before .before .before .before .before .before .before .before .if1 .left) (c .before .before .before .before .before .before .before .before .before .before .before .see .ensures) (c .before .before .before .before .before .before .before .before .before .s .given .1) _ _ (c .before .before .before .before .before .before .t .given .1) (c .before .before .before .take .ensures) _ (omega arith)) (c .before .before .parse-assign .ensures))
     (λ c. search needs)
-    (λ c. let f = one-fewer (c .before .before .before .before .before .before .before .before .before .before .before .before .before .before .before .pre .1) (c .before .before .before .before .before .before .before .before .before .before .before .see .ensures) (c .before .before .before .before .before .before .before .before .before .s .given .1) (c .before .before .before .take4 .ensures) in
-    moved _ (omega arith) (omega arith) (call-arm _ _ (c .before .before .before .before .before .before .before .before .before .before .before .before .if1 .left) (c .before .before .before .before .before .before .before .before .before .before .before .see .ensures) (c .before .before .before .before .before .before .before .before .before .s .given .1) (sym (c .before .before .before .before .before .before .before .token .ensures) ∙ c .before .before .before .before .before .enum-told4 .given .1) (c .before .before .before .take4 .ensures) _ (omega arith)) (c .before .before .parse-call .ensures))
+    (λ c. let f = one-fewer (c .before .before .before .before .before .before .before .before .before .before .before .before .before .before .pre .1) (c .before .before .before .before .before .before .before .before .before .before .see .ensures) (c .before .before .before .before .before .before .before .before .s .given .1) (c .before .before .before .take2 .ensures) in
+    moved _ (omega arith) (omega arith) (if-arm _ _ (c .before .before .before .before .before .before .before .before .before .before .before .if1 .left) (c .before .before .before .before .before .before .before .before .before .before .see .ensures) (c .before .before .before .before .before .before .before .before .s .given .1) (c .before .before .before .before .before .enum-told2 .given .1) (c .before .before .before .take2 .ensures) _ (omega arith)) (c .before .before .parse-if .ensures))
     (λ c. search needs)
-    (λ c. body-arm _ _ (c .before .before .before .before .before .before .before .before .before .before .before .if1 .left) (c .before .before .before .before .before .before .before .before .before .before .see .ensures) (c .before .before .before .before .before .before .before .before .s .given .1) (sym (c .before .before .before .before .before .before .token .ensures) ∙ c .before .before .before .before .enum-told5 .given .1) _ (omega arith) (same-left (c .before .before .before .before .before .before .before .before .before .before .before .before .before .before .pre .1) (c .before .before .before .before .before .before .before .before .before .before .see .ensures) (c .before .before .before .before .before .before .before .before .s .given .1)) _ (c .before .before .parse-body .ensures))
+    (λ c. let f = one-fewer (c .before .before .before .before .before .before .before .before .before .before .before .before .before .before .pre .1) (c .before .before .before .before .before .before .before .before .before .before .see .ensures) (c .before .before .before .before .before .before .before .before .s .given .1) (c .before .before .before .take3 .ensures) in
+    moved _ (omega arith) (omega arith) (while-arm _ _ (c .before .before .before .before .before .before .before .before .before .before .before .if1 .left) (c .before .before .before .before .before .before .before .before .before .before .see .ensures) (c .before .before .before .before .before .before .before .before .s .given .1) (c .before .before .before .before .before .enum-told3 .given .1) (c .before .before .before .take3 .ensures) _ (omega arith)) (c .before .before .parse-while .ensures))
     (λ c. search needs)
-    (λ c. let f = one-fewer (c .before .before .before .before .before .before .before .before .before .before .before .before .before .before .before .pre .1) (c .before .before .before .before .before .before .before .before .before .before .before .see .ensures) (c .before .before .before .before .before .before .before .before .before .s .given .1) (c .before .before .before .take5 .ensures) in
-    moved _ (omega arith) (omega arith) (read-arm _ _ (c .before .before .before .before .before .before .before .before .before .before .before .before .if1 .left) (c .before .before .before .before .before .before .before .before .before .before .before .see .ensures) (c .before .before .before .before .before .before .before .before .before .s .given .1) (sym (c .before .before .before .before .before .before .before .token .ensures) ∙ c .before .before .before .before .before .enum-told6 .given .1) (c .before .before .before .take5 .ensures) _ (omega arith)) (c .before .before .parse-read .ensures))
+    (λ c. let f = one-fewer (c .before .before .before .before .before .before .before .before .before .before .before .before .before .before .pre .1) (c .before .before .before .before .before .before .before .before .before .before .see .ensures) (c .before .before .before .before .before .before .before .before .s .given .1) (c .before .before .before .take4 .ensures) in
+    moved _ (omega arith) (omega arith) (call-arm _ _ (c .before .before .before .before .before .before .before .before .before .before .before .if1 .left) (c .before .before .before .before .before .before .before .before .before .before .see .ensures) (c .before .before .before .before .before .before .before .before .s .given .1) (c .before .before .before .before .before .enum-told4 .given .1) (c .before .before .before .take4 .ensures) _ (omega arith)) (c .before .before .parse-call .ensures))
     (λ c. search needs)
-    (λ c. let f = one-fewer (c .before .before .before .before .before .before .before .before .before .before .before .before .before .before .before .pre .1) (c .before .before .before .before .before .before .before .before .before .before .before .see .ensures) (c .before .before .before .before .before .before .before .before .before .s .given .1) (c .before .before .before .take6 .ensures) in
-    moved _ (omega arith) (omega arith) (write-arm _ _ (c .before .before .before .before .before .before .before .before .before .before .before .before .if1 .left) (c .before .before .before .before .before .before .before .before .before .before .before .see .ensures) (c .before .before .before .before .before .before .before .before .before .s .given .1) (sym (c .before .before .before .before .before .before .before .token .ensures) ∙ c .before .before .before .before .before .enum-told7 .given .1) (c .before .before .before .take6 .ensures) _ (omega arith)) (c .before .before .parse-write .ensures))
-    (λ c. stmt-none _ _ (c .before .before .before .before .before .before .if1 .left) (c .before .before .before .before .before .see .ensures) (c .before .before .before .s .given .1) (c .before .token .ensures) (c .match2 .keys8) (c .before .before .before .before .before .before .before .before .before .pre .1)))
+    (λ c. body-arm _ _ (c .before .before .before .before .before .before .before .before .before .before .if1 .left) (c .before .before .before .before .before .before .before .before .before .see .ensures) (c .before .before .before .before .before .before .before .s .given .1) (c .before .before .before .before .enum-told5 .given .1) _ (omega arith) (same-left (c .before .before .before .before .before .before .before .before .before .before .before .before .before .pre .1) (c .before .before .before .before .before .before .before .before .before .see .ensures) (c .before .before .before .before .before .before .before .s .given .1)) _ (c .before .before .parse-body .ensures))
+    (λ c. search needs)
+    (λ c. let f = one-fewer (c .before .before .before .before .before .before .before .before .before .before .before .before .before .before .pre .1) (c .before .before .before .before .before .before .before .before .before .before .see .ensures) (c .before .before .before .before .before .before .before .before .s .given .1) (c .before .before .before .take5 .ensures) in
+    moved _ (omega arith) (omega arith) (read-arm _ _ (c .before .before .before .before .before .before .before .before .before .before .before .if1 .left) (c .before .before .before .before .before .before .before .before .before .before .see .ensures) (c .before .before .before .before .before .before .before .before .s .given .1) (c .before .before .before .before .before .enum-told6 .given .1) (c .before .before .before .take5 .ensures) _ (omega arith)) (c .before .before .parse-read .ensures))
+    (λ c. search needs)
+    (λ c. let f = one-fewer (c .before .before .before .before .before .before .before .before .before .before .before .before .before .before .pre .1) (c .before .before .before .before .before .before .before .before .before .before .see .ensures) (c .before .before .before .before .before .before .before .before .s .given .1) (c .before .before .before .take6 .ensures) in
+    moved _ (omega arith) (omega arith) (write-arm _ _ (c .before .before .before .before .before .before .before .before .before .before .before .if1 .left) (c .before .before .before .before .before .before .before .before .before .before .see .ensures) (c .before .before .before .before .before .before .before .before .s .given .1) (c .before .before .before .before .before .enum-told7 .given .1) (c .before .before .before .take6 .ensures) _ (omega arith)) (c .before .before .parse-write .ensures))
+    (λ c. stmt-none _ _ (c .before .before .before .before .before .if1 .left) (c .before .before .before .before .see .ensures) (c .before .before .s .given .1) (c .match2 .keys8) (c .before .before .before .before .before .before .before .before .pre .1)))
     (λ t. parse-statements-lts.spec (
       parse-statement-below t,
       parse-statement.Post,
