@@ -8,7 +8,7 @@ use lib.ListN.{length, getD}
 use Rattle.numbers.specs.Limits.{maxCode}
 use Rattle.numbers.specs.Arithmetic.{Arith, add, sub, mul, div, Compare, equal, unequal, less, atLeast, greater, atMost}
 use Rattle.tree.specs.Tree.{Exp, lit, ref, neg, chain, brackets, Chain, end, link, Cond, isOdd, rel}
-use Rattle.tree.specs.Layout.{negKind, chainKind, bracketsKind, oddKind, comparisonKind, noMore, member, count}
+use Rattle.tree.specs.Layout.{negKind, chainKind, bracketsKind, oddKind, comparisonKind, noMore, member, nameNo, numberNo, nodeNo, count}
 use Rattle.tree.specs.Nodes.{expNode, chainNodes, condNode, arithNo, compareNo}
 use Rattle.tree.specs.Named.{NamedExp, NamedChain, NamedCond}
 use Rattle.tree.specs.Reading.{word-at, literal-at, branch-at, first-at, next-at, After}
@@ -56,7 +56,7 @@ module _ {s tr : List ℕ} {i : ℕ} where
   unfolding expNode NamedExp
   ref-fits (isRef n) a = let f = word-at tr i (a .op) (n .at) (length (n .text)) (a .stands) in omega (arith, f .at2, f .at3, a .named .fits)
 
-  pub ref-in : getD tr i 0 ≡ 1 → HasExp s tr i → getD tr (i + 2) 0 + getD tr (i + 3) 0 ≤ length s
+  pub ref-in : getD tr i 0 ≡ nameNo → HasExp s tr i → getD tr (i + 2) 0 + getD tr (i + 3) 0 ≤ length s
   ref-in k h = ref-fits (exp-by nameHead k (h .at)) (h .at)
 
   -- a negated term
@@ -65,12 +65,12 @@ module _ {s tr : List ℕ} {i : ℕ} where
   unfolding expNode NamedExp
   neg-inner (isNeg e) a = record { exp = e; at = record { op = 0; stands = first-at tr i negKind (a .op) (expNode 0 e) noMore (a .stands) .one; named = a .named } }
 
-  pub has-neg : getD tr i 0 ≡ 3 → HasExp s tr i → HasExp s tr (i + 4)
+  pub has-neg : getD tr i 0 ≡ nodeNo negKind → HasExp s tr i → HasExp s tr (i + 4)
   has-neg k h = neg-inner (exp-by (nodeHead negKind) k (h .at)) (h .at)
 
   -- brackets, where it is nothing else
 
-  pub is-brackets : {t : Exp} → (getD tr i 0 ≡ 4 → ⊥) → (getD tr i 0 ≡ 1 → ⊥) → (getD tr i 0 ≡ 2 → ⊥) → (getD tr i 0 ≡ 3 → ⊥) → ExpAt s tr i t → ExpIs (nodeHead bracketsKind) t
+  pub is-brackets : {t : Exp} → (getD tr i 0 ≡ nodeNo chainKind → ⊥) → (getD tr i 0 ≡ nameNo → ⊥) → (getD tr i 0 ≡ numberNo → ⊥) → (getD tr i 0 ≡ nodeNo negKind → ⊥) → ExpAt s tr i t → ExpIs (nodeHead bracketsKind) t
   is-brackets {t} a b c d at = of t at
     where
       of : (u : Exp) → ExpAt s tr i u → ExpIs (nodeHead bracketsKind) u
@@ -84,7 +84,7 @@ module _ {s tr : List ℕ} {i : ℕ} where
   unfolding expNode NamedExp
   brackets-inner (isBrackets e) a = record { exp = e; at = record { op = 0; stands = first-at tr i bracketsKind (a .op) (expNode 0 e) noMore (a .stands) .one; named = a .named } }
 
-  pub has-brackets : (getD tr i 0 ≡ 4 → ⊥) → (getD tr i 0 ≡ 1 → ⊥) → (getD tr i 0 ≡ 2 → ⊥) → (getD tr i 0 ≡ 3 → ⊥) → HasExp s tr i → HasExp s tr (i + 4)
+  pub has-brackets : (getD tr i 0 ≡ nodeNo chainKind → ⊥) → (getD tr i 0 ≡ nameNo → ⊥) → (getD tr i 0 ≡ numberNo → ⊥) → (getD tr i 0 ≡ nodeNo negKind → ⊥) → HasExp s tr i → HasExp s tr (i + 4)
   has-brackets a b c d h = brackets-inner (is-brackets a b c d (h .at)) (h .at)
 
   -- the first operand of a chain
@@ -93,7 +93,7 @@ module _ {s tr : List ℕ} {i : ℕ} where
   unfolding expNode NamedExp
   chain-first (isChain e c) a = record { exp = e; at = record { op = 0; stands = first-at tr i chainKind (a .op) (expNode 0 e) (chainNodes c) (a .stands) .one; named = a .named .0 } }
 
-  pub has-first : getD tr i 0 ≡ 4 → HasExp s tr i → HasExp s tr (i + 4)
+  pub has-first : getD tr i 0 ≡ nodeNo chainKind → HasExp s tr i → HasExp s tr (i + 4)
   has-first k h = chain-first (exp-by (nodeHead chainKind) k (h .at)) (h .at)
 
 -- what each becomes
@@ -104,7 +104,7 @@ module _ {s tr : List ℕ} {i : ℕ} (ρ : Env) {n : ℕ} {ys zs : List ℕ} {r 
       let f = word-at tr i (a .op) (m .at) (length (m .text)) (a .stands) in
       rw (← name-is {s = s} {n = m} (getD tr (i + 2) 0) (getD tr (i + 3) 0) (f .at2) (f .at3) (a .named)) h
 
-  pub exp-ref : getD tr i 0 ≡ 1 → Emits (used ρ (find (ρ .rows) (part s (getD tr (i + 2) 0) (getD tr (i + 3) 0)) (ρ .scope)) n) n ys zs r → (t : Exp) → ExpAt s tr i t → Emits (expCode ρ t n) n ys zs r
+  pub exp-ref : getD tr i 0 ≡ nameNo → Emits (used ρ (find (ρ .rows) (part s (getD tr (i + 2) 0) (getD tr (i + 3) 0)) (ρ .scope)) n) n ys zs r → (t : Exp) → ExpAt s tr i t → Emits (expCode ρ t n) n ys zs r
   exp-ref k h t a = as-ref h (exp-by nameHead k a) a
 
   as-lit : {t : Exp} → Emits (emit LIT 0 (pos (whole (getD tr (i + 2) 0) (getD tr (i + 3) 0))) n) n ys zs r → ExpIs numberHead t → ExpAt s tr i t → Emits (expCode ρ t n) n ys zs r
@@ -114,14 +114,14 @@ module _ {s tr : List ℕ} {i : ℕ} (ρ : Env) {n : ℕ} {ys zs : List ℕ} {r 
       let e : whole (getD tr (i + 2) 0) (getD tr (i + 3) 0) ≡ v = omega (arith, f .at2, f .at3) in
       rw (← e) h
 
-  pub exp-lit : getD tr i 0 ≡ 2 → Emits (emit LIT 0 (pos (whole (getD tr (i + 2) 0) (getD tr (i + 3) 0))) n) n ys zs r → (t : Exp) → ExpAt s tr i t → Emits (expCode ρ t n) n ys zs r
+  pub exp-lit : getD tr i 0 ≡ numberNo → Emits (emit LIT 0 (pos (whole (getD tr (i + 2) 0) (getD tr (i + 3) 0))) n) n ys zs r → (t : Exp) → ExpAt s tr i t → Emits (expCode ρ t n) n ys zs r
   exp-lit k h t a = as-lit h (exp-by numberHead k a) a
 
   as-neg : {t : Exp} → ((u : Exp) → ExpAt s tr (i + 4) u → Emits ((expCode ρ u ⨾ emitOper negate) n) n ys zs r) → ExpIs (nodeHead negKind) t → ExpAt s tr i t → Emits (expCode ρ t n) n ys zs r
   unfolding expCode NamedExp expNode
   as-neg h (isNeg e) a = h e (record { op = 0; stands = first-at tr i negKind (a .op) (expNode 0 e) noMore (a .stands) .one; named = a .named })
 
-  pub exp-neg : getD tr i 0 ≡ 3 → ((o : Oper) (u : Exp) → operNo o ≡ 1 → ExpAt s tr (i + 4) u → Emits ((expCode ρ u ⨾ emitOper o) n) n ys zs r) → (t : Exp) → ExpAt s tr i t → Emits (expCode ρ t n) n ys zs r
+  pub exp-neg : getD tr i 0 ≡ nodeNo negKind → ((o : Oper) (u : Exp) → operNo o ≡ 1 → ExpAt s tr (i + 4) u → Emits ((expCode ρ u ⨾ emitOper o) n) n ys zs r) → (t : Exp) → ExpAt s tr i t → Emits (expCode ρ t n) n ys zs r
   exp-neg k h t a = as-neg (λ u. h negate u refl) (exp-by (nodeHead negKind) k a) a
 
   pub exp-brackets : ((t : Exp) → ExpAt s tr i t → ExpIs (nodeHead bracketsKind) t) → ((u : Exp) → ExpAt s tr (i + 4) u → Emits (expCode ρ u n) n ys zs r) → (t : Exp) → ExpAt s tr i t → Emits (expCode ρ t n) n ys zs r
@@ -195,7 +195,7 @@ module _ (s tr : List ℕ) (ρ : Env) where
   unfolding expNode NamedExp
   at-first {i} e c a = record { op = 0; stands = first-at tr i chainKind (a .op) (expNode 0 e) (chainNodes c) (a .stands) .one; named = a .named .0 }
 
-  module _ {i n : ℕ} {ys zs : List ℕ} {r : Made} (k : getD tr i 0 ≡ 4) (h : (u : Exp) → ExpAt s tr (i + 4) u → Emits (expCode ρ u n) n ys zs r) where
+  module _ {i n : ℕ} {ys zs : List ℕ} {r : Made} (k : getD tr i 0 ≡ nodeNo chainKind) (h : (u : Exp) → ExpAt s tr (i + 4) u → Emits (expCode ρ u n) n ys zs r) where
     pub chain-stop : (zs′ : List ℕ) → Stops r → (t : Exp) → ExpAt s tr i t → Emits (expCode ρ t n) n ys zs′ r
     unfolding expCode
     chain-stop zs′ f t a = of (exp-by (nodeHead chainKind) k a) a
@@ -217,7 +217,7 @@ module _ (s tr : List ℕ) (ρ : Env) where
   link-ens h p a = h (arithmetic (p .0)) (p .1) (arith-no (p .0) ∙ ap (λ (x : ℕ). 1 + x) (sym (a .0))) (a .1)
 
 -- the chain that stands there
-pub the-chain : {s tr : List ℕ} {i : ℕ} → getD tr i 0 ≡ 4 → HasExp s tr i → (w : Exp × Chain) × ExpAt s tr i (chain (w .0) (w .1))
+pub the-chain : {s tr : List ℕ} {i : ℕ} → getD tr i 0 ≡ nodeNo chainKind → HasExp s tr i → (w : Exp × Chain) × ExpAt s tr i (chain (w .0) (w .1))
 the-chain {s} {tr} {i} k h = of (exp-by (nodeHead chainKind) k (h .at)) (h .at)
   where
     of : {u : Exp} → ExpIs (nodeHead chainKind) u → ExpAt s tr i u → (w : Exp × Chain) × ExpAt s tr i (chain (w .0) (w .1))
@@ -233,11 +233,11 @@ module _ {s tr : List ℕ} {i : ℕ} where
   unfolding condNode NamedCond
   odd-inner (isOddness e) a = record { exp = e; at = record { op = 0; stands = first-at tr i oddKind 0 (expNode 0 e) noMore (a .stands) .one; named = a .named } }
 
-  pub has-odd : getD tr i 0 ≡ 6 → HasCond s tr i → HasExp s tr (i + 4)
+  pub has-odd : getD tr i 0 ≡ nodeNo oddKind → HasCond s tr i → HasExp s tr (i + 4)
   has-odd k h = odd-inner (cond-is (nodeHead oddKind) tr i (h .cond) k (h .at .stands)) (h .at)
 
   -- not `odd`, so a comparison
-  is-rel : (getD tr i 0 ≡ 6 → ⊥) → (t : Cond) → CondAt s tr i t → CondIs (nodeHead comparisonKind) t
+  is-rel : (getD tr i 0 ≡ nodeNo oddKind → ⊥) → (t : Cond) → CondAt s tr i t → CondIs (nodeHead comparisonKind) t
   is-rel k (isOdd e) a = absurd (k (cond-head tr i (isOdd e) (a .stands) .kind))
   is-rel k (rel o x y) a = isRel o x y
 
@@ -249,19 +249,19 @@ module _ {s tr : List ℕ} {i : ℕ} where
   unfolding condNode NamedCond
   at-right {j} o x y f a = record { op = 0; stands = next-at tr (i + 4) j (expNode 0 x) (expNode 0 y) noMore f (first-at tr i comparisonKind (compareNo o) (expNode 0 x) (member (expNode 0 y) noMore) (a .stands)) .one; named = a .named .1 }
 
-  pub has-left : (getD tr i 0 ≡ 6 → ⊥) → HasCond s tr i → HasExp s tr (i + 4)
+  pub has-left : (getD tr i 0 ≡ nodeNo oddKind → ⊥) → HasCond s tr i → HasExp s tr (i + 4)
   has-left k h = of (is-rel k (h .cond) (h .at)) (h .at)
     where
       of : {t : Cond} → CondIs (nodeHead comparisonKind) t → CondAt s tr i t → HasExp s tr (i + 4)
       of (isRel o x y) a = record { exp = x; at = at-left o x y a }
 
-  pub has-right : {j : ℕ} → (getD tr i 0 ≡ 6 → ⊥) → After tr (i + 4) j → HasCond s tr i → HasExp s tr j
+  pub has-right : {j : ℕ} → (getD tr i 0 ≡ nodeNo oddKind → ⊥) → After tr (i + 4) j → HasCond s tr i → HasExp s tr j
   has-right {j} k f h = of (is-rel k (h .cond) (h .at)) (h .at)
     where
       of : {t : Cond} → CondIs (nodeHead comparisonKind) t → CondAt s tr i t → HasExp s tr j
       of (isRel o x y) a = record { exp = y; at = at-right o x y f a }
 
-  pub rel-small : (getD tr i 0 ≡ 6 → ⊥) → HasCond s tr i → getD tr (i + 1) 0 ≤ 6
+  pub rel-small : (getD tr i 0 ≡ nodeNo oddKind → ⊥) → HasCond s tr i → getD tr (i + 1) 0 ≤ 6
   rel-small k h = of (is-rel k (h .cond) (h .at)) (h .at)
     where
       small : (o : Compare) → compareNo o ≤ 6
@@ -276,14 +276,14 @@ module _ {s tr : List ℕ} {i : ℕ} where
       of (isRel o x y) a = omega (arith, cond-head tr i (rel o x y) (a .stands) .op, small o)
 
 module _ {s tr : List ℕ} {i : ℕ} (ρ : Env) {n : ℕ} {ys zs : List ℕ} {r : Made} where
-  pub cond-odd : getD tr i 0 ≡ 6 → ((o : Oper) (u : Exp) → operNo o ≡ 6 → ExpAt s tr (i + 4) u → Emits ((expCode ρ u ⨾ emitOper o) n) n ys zs r) → (t : Cond) → CondAt s tr i t → Emits (condCode ρ t n) n ys zs r
+  pub cond-odd : getD tr i 0 ≡ nodeNo oddKind → ((o : Oper) (u : Exp) → operNo o ≡ 6 → ExpAt s tr (i + 4) u → Emits ((expCode ρ u ⨾ emitOper o) n) n ys zs r) → (t : Cond) → CondAt s tr i t → Emits (condCode ρ t n) n ys zs r
   unfolding condCode NamedCond condNode
   cond-odd k h t a = of (cond-is (nodeHead oddKind) tr i t k (a .stands)) a
     where
       of : {u : Cond} → CondIs (nodeHead oddKind) u → CondAt s tr i u → Emits (condCode ρ u n) n ys zs r
       of (isOddness e) x = h odd e refl (record { op = 0; stands = first-at tr i oddKind 0 (expNode 0 e) noMore (x .stands) .one; named = x .named })
 
-  module _ (k : getD tr i 0 ≡ 6 → ⊥) (h : (u : Exp) → ExpAt s tr (i + 4) u → Emits (expCode ρ u n) n ys zs r) where
+  module _ (k : getD tr i 0 ≡ nodeNo oddKind → ⊥) (h : (u : Exp) → ExpAt s tr (i + 4) u → Emits (expCode ρ u n) n ys zs r) where
     pub cond-stop : (zs′ : List ℕ) → Stops r → (t : Cond) → CondAt s tr i t → Emits (condCode ρ t n) n ys zs′ r
     unfolding condCode
     cond-stop zs′ f t a = of (is-rel k t a) a

@@ -7,7 +7,7 @@ use lib.IntN.{pos}
 use lib.ListN.{length, getD, set}
 use Rattle.numbers.specs.Limits.{maxCode, draftPlaces, draftShare}
 use Rattle.tree.specs.Tree.{Cond, Stmt, assign, ifThen, ifElse, while, call, body, readS, writeS}
-use Rattle.tree.specs.Layout.{ifKind, whileKind, noMore, member, count}
+use Rattle.tree.specs.Layout.{assignKind, ifKind, whileKind, callKind, bodyKind, readKind, writeKind, noMore, member, nodeNo, count}
 use Rattle.tree.specs.Nodes.{condNode, stmtNode}
 use Rattle.tree.specs.Named.{NamedStmt}
 use Rattle.tree.specs.Reading.{Two, branch-at, first-at, next-at, After}
@@ -118,14 +118,14 @@ module _ {s tr : List ℕ} {i : ℕ} (ρ : Env) {n : ℕ} where
             (e, refl, record { stands = w .one; named = x .named .1 .1 }, omega (arith, f (condNode c) (guard-first a .one), guard-first a .least, g (stmtNode t) (guard-next a f .one)), omega (arith, w .fits, w .least));
       }
 
-  if-at : getD tr i 0 ≡ 9 → (t : Stmt) → StmtAt s tr i t → IfAt s tr i ρ n t
+  if-at : getD tr i 0 ≡ nodeNo ifKind → (t : Stmt) → StmtAt s tr i t → IfAt s tr i ρ n t
   if-at k t x = of (stmt-by (nodeHead ifKind) k x) x
     where
       of : {u : Stmt} → StmtIs (nodeHead ifKind) u → StmtAt s tr i u → IfAt s tr i ρ n u
       of (isThen c u) y = if-then c u y
       of (isElse c u e) y = if-else c u e y
 
-  module _ {ys zs : List ℕ} {a : Made} (k : getD tr i 0 ≡ 9) (ha : (c : Cond) (t : Stmt) → GuardAt s tr i c t → Emits (guardCode ρ c t n) n ys zs a) where
+  module _ {ys zs : List ℕ} {a : Made} (k : getD tr i 0 ≡ nodeNo ifKind) (ha : (c : Cond) (t : Stmt) → GuardAt s tr i c t → Emits (guardCode ρ c t n) n ys zs a) where
     pub if-stop : (zs′ : List ℕ) → Stops a → (t : Stmt) → StmtAt s tr i t → Emits (stmtCode ρ t n) n ys zs′ a
     if-stop zs′ f t x = let v = if-at k t x in same (v .is) (stop (guardCode ρ (v .cond) (v .stmt)) (jumpOver JMP 0 (v .els)) f (ha (v .cond) (v .stmt) (v .guard)))
 
@@ -159,7 +159,7 @@ module _ {s tr : List ℕ} {i : ℕ} (ρ : Env) {n : ℕ} where
               rw eu (if-on t v (jump-made JMP 0 p m (v .els) (one ee he) q er (omega arith) (omega (arith, w .most)) room (els-here t v)))
 
 -- what stands there, whatever it becomes
-module _ {s tr : List ℕ} {i : ℕ} (k : getD tr i 0 ≡ 9) (h : HasStmt s tr i) where
+module _ {s tr : List ℕ} {i : ℕ} (k : getD tr i 0 ≡ nodeNo ifKind) (h : HasStmt s tr i) where
   found : IfAt s tr i (record { rows = []; level = 0; scope = [] }) 0 (h .stmt)
   found = if-at (record { rows = []; level = 0; scope = [] }) k (h .stmt) (h .at)
 
@@ -175,13 +175,13 @@ module _ {s tr : List ℕ} {i : ℕ} where
   unfolding stmtNode NamedStmt
   while-guard c t x = record { kind = whileKind; others = noMore; stands = x .stands; cond-named = x .named .0; stmt-named = x .named .1 }
 
-  pub has-while : getD tr i 0 ≡ 10 → HasStmt s tr i → HasGuard s tr i
+  pub has-while : getD tr i 0 ≡ nodeNo whileKind → HasStmt s tr i → HasGuard s tr i
   has-while k h = of (stmt-by (nodeHead whileKind) k (h .at)) (h .at)
     where
       of : {u : Stmt} → StmtIs (nodeHead whileKind) u → StmtAt s tr i u → HasGuard s tr i
       of (isWhile c u) y = record { cond = c; stmt = u; at = while-guard c u y }
 
-  module _ (ρ : Env) {n : ℕ} {ys zs : List ℕ} {a : Made} (k : getD tr i 0 ≡ 10) (ha : (c : Cond) (t : Stmt) → GuardAt s tr i c t → Emits (guardCode ρ c t n) n ys zs a) where
+  module _ (ρ : Env) {n : ℕ} {ys zs : List ℕ} {a : Made} (k : getD tr i 0 ≡ nodeNo whileKind) (ha : (c : Cond) (t : Stmt) → GuardAt s tr i c t → Emits (guardCode ρ c t n) n ys zs a) where
     while-is : (c : Cond) (t : Stmt) → stmtCode ρ (while c t) n ≡ (guardCode ρ c t ⨾ emit JMP 0 (pos n)) n
     unfolding stmtCode
     while-is c t = seq-assoc (condCode ρ c) (jumpOver JPC 1 (stmtCode ρ t)) (emit JMP 0 (pos n)) n
@@ -199,10 +199,10 @@ module _ {s tr : List ℕ} {i : ℕ} where
         of (isWhile c u) y = same (while-is c u) (then (guardCode ρ c u) (emit JMP 0 (pos n)) b ea (ha c u (while-guard c u y)) w)
 
   -- what is none of the others writes
-  pub is-write : {t : Stmt} → (getD tr i 0 ≡ 8 → ⊥) → (getD tr i 0 ≡ 9 → ⊥) → (getD tr i 0 ≡ 10 → ⊥) → (getD tr i 0 ≡ 11 → ⊥) → (getD tr i 0 ≡ 12 → ⊥) → (getD tr i 0 ≡ 13 → ⊥) → StmtAt s tr i t → getD tr i 0 ≡ 14
+  pub is-write : {t : Stmt} → (getD tr i 0 ≡ nodeNo assignKind → ⊥) → (getD tr i 0 ≡ nodeNo ifKind → ⊥) → (getD tr i 0 ≡ nodeNo whileKind → ⊥) → (getD tr i 0 ≡ nodeNo callKind → ⊥) → (getD tr i 0 ≡ nodeNo bodyKind → ⊥) → (getD tr i 0 ≡ nodeNo readKind → ⊥) → StmtAt s tr i t → getD tr i 0 ≡ nodeNo writeKind
   is-write {t} h8 h9 h10 h11 h12 h13 x = of t (stmt-head tr i t (x .stands) .kind)
     where
-      of : (u : Stmt) → getD tr i 0 ≡ stmtNo u → getD tr i 0 ≡ 14
+      of : (u : Stmt) → getD tr i 0 ≡ stmtNo u → getD tr i 0 ≡ nodeNo writeKind
       of (assign n e) k = absurd (h8 k)
       of (ifThen c u) k = absurd (h9 k)
       of (ifElse c u e) k = absurd (h9 k)

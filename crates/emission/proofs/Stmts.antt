@@ -8,7 +8,7 @@ use lib.ListN.{length, getD}
 use Rattle.numbers.specs.Limits.{maxCode}
 use Rattle.lexer.specs.Tokens.{Name}
 use Rattle.tree.specs.Tree.{Exp, Stmt, assign, call, Stmts, last, more}
-use Rattle.tree.specs.Layout.{assignKind, callKind, bodyKind, readKind, writeKind, Node, Nodes, noMore, member, count}
+use Rattle.tree.specs.Layout.{assignKind, callKind, bodyKind, readKind, writeKind, Node, Nodes, noMore, member, nodeNo, count}
 use Rattle.tree.specs.Nodes.{listNodes, nameNode, expNode, expNodes, stmtNode, stmtNodes}
 use Rattle.tree.specs.Named.{NameIn, Each, NamedExp, NamedStmt, NamedStmts}
 use Rattle.tree.specs.Reading.{word-at, branch-at, two-at}
@@ -46,20 +46,20 @@ module _ {s tr : List ℕ} {i : ℕ} where
   unfolding NamedStmt
   assigned n e a = record { op = 0; stands = two-at tr (i + 8) (expNode 0 e) noMore (assign-parts n e a .others) .one; named = a .named .1 }
 
-  pub assign-in : getD tr i 0 ≡ 8 → HasStmt s tr i → (getD tr (i + 6) 0 + getD tr (i + 7) 0 ≤ length s) × (i + 8 ≤ length tr)
+  pub assign-in : getD tr i 0 ≡ nodeNo assignKind → HasStmt s tr i → (getD tr (i + 6) 0 + getD tr (i + 7) 0 ≤ length s) × (i + 8 ≤ length tr)
   unfolding NamedStmt
   assign-in k h = of (stmt-by (nodeHead assignKind) k (h .at)) (h .at)
     where
       of : {t : Stmt} → StmtIs (nodeHead assignKind) t → StmtAt s tr i t → (getD tr (i + 6) 0 + getD tr (i + 7) 0 ≤ length s) × (i + 8 ≤ length tr)
       of (isAssign n e) a = let w = assign-parts n e a in (omega (arith, w .at6, w .at7, a .named .0 .fits), w .fits)
 
-  pub has-assigned : getD tr i 0 ≡ 8 → HasStmt s tr i → HasExp s tr (i + 8)
+  pub has-assigned : getD tr i 0 ≡ nodeNo assignKind → HasStmt s tr i → HasExp s tr (i + 8)
   has-assigned k h = of (stmt-by (nodeHead assignKind) k (h .at)) (h .at)
     where
       of : {t : Stmt} → StmtIs (nodeHead assignKind) t → StmtAt s tr i t → HasExp s tr (i + 8)
       of (isAssign n e) a = record { exp = e; at = assigned n e a }
 
-  pub by-assign : (ρ : Env) {n : ℕ} {ys zs : List ℕ} {r : Made} → getD tr i 0 ≡ 8 → ((e : Exp) → ExpAt s tr (i + 8) e → Emits (storing ρ (expCode ρ e) (sought s tr i ρ) n) n ys zs r)
+  pub by-assign : (ρ : Env) {n : ℕ} {ys zs : List ℕ} {r : Made} → getD tr i 0 ≡ nodeNo assignKind → ((e : Exp) → ExpAt s tr (i + 8) e → Emits (storing ρ (expCode ρ e) (sought s tr i ρ) n) n ys zs r)
       → (t : Stmt) → StmtAt s tr i t → Emits (stmtCode ρ t n) n ys zs r
   unfolding stmtCode NamedStmt
   by-assign ρ {n} {ys} {zs} {r} k h t a = of (stmt-by (nodeHead assignKind) k a) a
@@ -115,7 +115,7 @@ module _ (s tr : List ℕ) (ρ : Env) where
     Is = StmtAt s tr i;
   }
 
-  pub reads-start : (i N n : ℕ) (ys : List ℕ) → getD tr i 0 ≡ 13 → N ≡ getD tr (i + 2) 0 → n ≤ maxCode → Loop (Reads i) N i n ys 0 (i + 4) n ys
+  pub reads-start : (i N n : ℕ) (ys : List ℕ) → getD tr i 0 ≡ nodeNo readKind → N ≡ getD tr (i + 2) 0 → n ≤ maxCode → Loop (Reads i) N i n ys 0 (i + 4) n ys
   unfolding stmtNode NamedStmt stmtCode
   reads-start i N n ys k e b t a = of (stmt-by (nodeHead readKind) k a) a
     where
@@ -156,7 +156,7 @@ module _ (s tr : List ℕ) (ρ : Env) where
     Is = StmtAt s tr i;
   }
 
-  pub writes-start : (i N n : ℕ) (ys : List ℕ) → getD tr i 0 ≡ 14 → N ≡ getD tr (i + 2) 0 → n ≤ maxCode → Loop (Writes i) N i n ys 0 (i + 4) n ys
+  pub writes-start : (i N n : ℕ) (ys : List ℕ) → getD tr i 0 ≡ nodeNo writeKind → N ≡ getD tr (i + 2) 0 → n ≤ maxCode → Loop (Writes i) N i n ys 0 (i + 4) n ys
   unfolding stmtNode NamedStmt stmtCode
   writes-start i N n ys k e b t a = of (stmt-by (nodeHead writeKind) k a) a
     where
@@ -175,7 +175,7 @@ module _ {s tr : List ℕ} {i : ℕ} where
   unfolding stmtNode
   call-parts n es a = name-first tr i callKind n (expNodes es) (a .stands)
 
-  pub call-in : getD tr i 0 ≡ 11 → HasStmt s tr i → (getD tr (i + 6) 0 + getD tr (i + 7) 0 ≤ length s) × (i + 8 ≤ length tr) × (1 ≤ getD tr (i + 2) 0)
+  pub call-in : getD tr i 0 ≡ nodeNo callKind → HasStmt s tr i → (getD tr (i + 6) 0 + getD tr (i + 7) 0 ≤ length s) × (i + 8 ≤ length tr) × (1 ≤ getD tr (i + 2) 0)
   unfolding NamedStmt stmtNode count
   call-in k h = of (stmt-by (nodeHead callKind) k (h .at)) (h .at)
     where
@@ -186,7 +186,7 @@ module _ {s tr : List ℕ} {i : ℕ} where
   unfolding stmtNode count
   call-length n es a = omega (arith, branch-at tr i callKind 0 (member (nameNode n) (expNodes es)) (a .stands) .at2, list-count (expNode 0) es)
 
-  pub by-call : (ρ : Env) {n : ℕ} {ys zs : List ℕ} {r : Made} → getD tr i 0 ≡ 11 → ((f : Name) (es : List Exp) → StmtAt s tr i (call f es) → Emits (callCode ρ es (sought s tr i ρ) n) n ys zs r)
+  pub by-call : (ρ : Env) {n : ℕ} {ys zs : List ℕ} {r : Made} → getD tr i 0 ≡ nodeNo callKind → ((f : Name) (es : List Exp) → StmtAt s tr i (call f es) → Emits (callCode ρ es (sought s tr i ρ) n) n ys zs r)
       → (t : Stmt) → StmtAt s tr i t → Emits (stmtCode ρ t n) n ys zs r
   unfolding stmtCode NamedStmt
   by-call ρ {n} {ys} {zs} {r} k h t a = of (stmt-by (nodeHead callKind) k a) a
@@ -194,7 +194,7 @@ module _ {s tr : List ℕ} {i : ℕ} where
       of : {u : Stmt} → StmtIs (nodeHead callKind) u → StmtAt s tr i u → Emits (stmtCode ρ u n) n ys zs r
       of (isCall m es) x = let w = call-parts m es x in rw (← name-is {s = s} {n = m} (getD tr (i + 6) 0) (getD tr (i + 7) 0) (w .at6) (w .at7) (x .named .0)) (h m es x)
 
-  pub the-call : getD tr i 0 ≡ 11 → HasStmt s tr i → (w : Name × List Exp) × StmtAt s tr i (call (w .0) (w .1))
+  pub the-call : getD tr i 0 ≡ nodeNo callKind → HasStmt s tr i → (w : Name × List Exp) × StmtAt s tr i (call (w .0) (w .1))
   the-call k h = of (stmt-by (nodeHead callKind) k (h .at)) (h .at)
     where
       of : {t : Stmt} → StmtIs (nodeHead callKind) t → StmtAt s tr i t → (w : Name × List Exp) × StmtAt s tr i (call (w .0) (w .1))
@@ -274,7 +274,7 @@ module _ (s tr : List ℕ) (ρ : Env) where
     Is = StmtAt s tr i;
   }
 
-  pub body-start : (i N n : ℕ) (ys : List ℕ) → getD tr i 0 ≡ 12 → N ≡ getD tr (i + 2) 0 → n ≤ maxCode → Loop (Body i) N i n ys 0 (i + 4) n ys
+  pub body-start : (i N n : ℕ) (ys : List ℕ) → getD tr i 0 ≡ nodeNo bodyKind → N ≡ getD tr (i + 2) 0 → n ≤ maxCode → Loop (Body i) N i n ys 0 (i + 4) n ys
   unfolding stmtNode NamedStmt stmtCode
   body-start i N n ys k e b t a = of (stmt-by (nodeHead bodyKind) k a) a
     where

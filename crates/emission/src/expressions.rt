@@ -20,6 +20,7 @@ ghost use mathlib.Core.Path.{_≡_};
 ghost use Prim.Native.Nat.{_+_, _≤_};
 ghost use lib.ListN.{length, getD};
 ghost use Rattle.tree.specs.Tree.{Exp, Cond};
+ghost use Rattle.tree.specs.Layout.{chainKind, nodeNo};
 ghost use Rattle.pcode.specs.Operators.{Oper, operNo};
 ghost use Rattle.symbols.specs.Symbols.{find};
 ghost use Rattle.symbols.specs.Table.{part};
@@ -155,7 +156,7 @@ fn chain(
 ) -> Made
     requires { ⌜ Ready (now text) (now table) env (now draft) n ⌝ }
     requires { ⌜ HasExp (now text) (now tree) i ⌝ }
-    requires { ⌜ getD (now tree) i 0 ≡ 4 ⌝ }
+    requires { ⌜ getD (now tree) i 0 ≡ nodeNo chainKind ⌝ }
     ensures { λ r. ⌜ ((t : Exp) → ExpAt (now (text .entry)) (now (tree .entry)) i t → Emits (expCode (hereOf (now (text .entry)) (now (table .entry)) env) t n) n (now (draft .entry)) (now (draft .exit)) r) ⌝ }
 {
     let count = tree::number_at(tree, i + 2);

@@ -26,6 +26,7 @@ ghost use mathlib.Core.List.{List};
 ghost use lib.ListN.{getD};
 ghost use Rattle.lexer.specs.Tokens.{Name};
 ghost use Rattle.tree.specs.Tree.{Exp, Cond, Stmt, call};
+ghost use Rattle.tree.specs.Layout.{assignKind, ifKind, whileKind, callKind, bodyKind, readKind, writeKind, nodeNo};
 ghost use Rattle.pcode.specs.Operators.{read};
 ghost use Rattle.pcode.specs.Code.{JPC};
 ghost use Rattle.emission.specs.Pieces.{_⨾_, emitOper, jumpOver};
@@ -48,7 +49,7 @@ fn assign(
 ) -> Made
     requires { ⌜ Ready (now text) (now table) env (now draft) n ⌝ }
     requires { ⌜ HasStmt (now text) (now tree) i ⌝ }
-    requires { ⌜ getD (now tree) i 0 ≡ 8 ⌝ }
+    requires { ⌜ getD (now tree) i 0 ≡ nodeNo assignKind ⌝ }
     ensures { λ r. ⌜ ((t : Stmt) → StmtAt (now (text .entry)) (now (tree .entry)) i t → Emits (stmtCode (hereOf (now (text .entry)) (now (table .entry)) env) t n) n (now (draft .entry)) (now (draft .exit)) r) ⌝ }
 {
     let f = lookup(text, table, env, tree[i + 6], tree[i + 7]);
@@ -105,7 +106,7 @@ fn read(
 ) -> Made
     requires { ⌜ Ready (now text) (now table) env (now draft) n ⌝ }
     requires { ⌜ HasStmt (now text) (now tree) i ⌝ }
-    requires { ⌜ getD (now tree) i 0 ≡ 13 ⌝ }
+    requires { ⌜ getD (now tree) i 0 ≡ nodeNo readKind ⌝ }
     ensures { λ r. ⌜ ((t : Stmt) → StmtAt (now (text .entry)) (now (tree .entry)) i t → Emits (stmtCode (hereOf (now (text .entry)) (now (table .entry)) env) t n) n (now (draft .entry)) (now (draft .exit)) r) ⌝ }
 {
     let count = tree::number_at(tree, i + 2);
@@ -136,7 +137,7 @@ fn write(
 ) -> Made
     requires { ⌜ Ready (now text) (now table) env (now draft) n ⌝ }
     requires { ⌜ HasStmt (now text) (now tree) i ⌝ }
-    requires { ⌜ getD (now tree) i 0 ≡ 14 ⌝ }
+    requires { ⌜ getD (now tree) i 0 ≡ nodeNo writeKind ⌝ }
     ensures { λ r. ⌜ ((t : Stmt) → StmtAt (now (text .entry)) (now (tree .entry)) i t → Emits (stmtCode (hereOf (now (text .entry)) (now (table .entry)) env) t n) n (now (draft .entry)) (now (draft .exit)) r) ⌝ }
 {
     let count = tree::number_at(tree, i + 2);
@@ -167,7 +168,7 @@ fn args(
 ) -> Made
     requires { ⌜ Ready (now text) (now table) env (now draft) n ⌝ }
     requires { ⌜ HasStmt (now text) (now tree) i ⌝ }
-    requires { ⌜ getD (now tree) i 0 ≡ 11 ⌝ }
+    requires { ⌜ getD (now tree) i 0 ≡ nodeNo callKind ⌝ }
     ensures { λ r. ⌜ ((f : Name) (es : List Exp) → StmtAt (now (text .entry)) (now (tree .entry)) i (call f es) → Emits (argsCode (hereOf (now (text .entry)) (now (table .entry)) env) es n) n (now (draft .entry)) (now (draft .exit)) r) ⌝ }
 {
     let count = tree::number_at(tree, i + 2);
@@ -198,7 +199,7 @@ fn call(
 ) -> Made
     requires { ⌜ Ready (now text) (now table) env (now draft) n ⌝ }
     requires { ⌜ HasStmt (now text) (now tree) i ⌝ }
-    requires { ⌜ getD (now tree) i 0 ≡ 11 ⌝ }
+    requires { ⌜ getD (now tree) i 0 ≡ nodeNo callKind ⌝ }
     ensures { λ r. ⌜ ((t : Stmt) → StmtAt (now (text .entry)) (now (tree .entry)) i t → Emits (stmtCode (hereOf (now (text .entry)) (now (table .entry)) env) t n) n (now (draft .entry)) (now (draft .exit)) r) ⌝ }
 {
     let f = lookup(text, table, env, tree[i + 6], tree[i + 7]);
@@ -263,7 +264,7 @@ fn conditional(
 ) -> Made
     requires { ⌜ Ready (now text) (now table) env (now draft) n ⌝ }
     requires { ⌜ HasStmt (now text) (now tree) i ⌝ }
-    requires { ⌜ getD (now tree) i 0 ≡ 9 ⌝ }
+    requires { ⌜ getD (now tree) i 0 ≡ nodeNo ifKind ⌝ }
     ensures { λ r. ⌜ ((t : Stmt) → StmtAt (now (text .entry)) (now (tree .entry)) i t → Emits (stmtCode (hereOf (now (text .entry)) (now (table .entry)) env) t n) n (now (draft .entry)) (now (draft .exit)) r) ⌝ }
 {
     let a = guarded(tree, i, text, table, env, draft, n);
@@ -306,7 +307,7 @@ fn looped(
 ) -> Made
     requires { ⌜ Ready (now text) (now table) env (now draft) n ⌝ }
     requires { ⌜ HasStmt (now text) (now tree) i ⌝ }
-    requires { ⌜ getD (now tree) i 0 ≡ 10 ⌝ }
+    requires { ⌜ getD (now tree) i 0 ≡ nodeNo whileKind ⌝ }
     ensures { λ r. ⌜ ((t : Stmt) → StmtAt (now (text .entry)) (now (tree .entry)) i t → Emits (stmtCode (hereOf (now (text .entry)) (now (table .entry)) env) t n) n (now (draft .entry)) (now (draft .exit)) r) ⌝ }
 {
     let a = guarded(tree, i, text, table, env, draft, n);
@@ -328,7 +329,7 @@ pub fn body(
 ) -> Made
     requires { ⌜ Ready (now text) (now table) env (now draft) n ⌝ }
     requires { ⌜ HasStmt (now text) (now tree) i ⌝ }
-    requires { ⌜ getD (now tree) i 0 ≡ 12 ⌝ }
+    requires { ⌜ getD (now tree) i 0 ≡ nodeNo bodyKind ⌝ }
     ensures { λ r. ⌜ ((t : Stmt) → StmtAt (now (text .entry)) (now (tree .entry)) i t → Emits (stmtCode (hereOf (now (text .entry)) (now (table .entry)) env) t n) n (now (draft .entry)) (now (draft .exit)) r) ⌝ }
 {
     let count = tree::number_at(tree, i + 2);

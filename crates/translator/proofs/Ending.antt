@@ -9,6 +9,7 @@ use lib.ListN.{getD}
 use Rattle.numbers.specs.Limits.{maxCode}
 use Rattle.numbers.specs.Stack.{links}
 use Rattle.tree.specs.Tree.{Stmt, body, Stmts}
+use Rattle.tree.specs.Layout.{bodyKind, nodeNo}
 use Rattle.tree.specs.Nodes.{stmtNode}
 use Rattle.tree.specs.Named.{NamedStmt}
 use Rattle.tree.specs.Heads.{stmt-head}
@@ -57,7 +58,7 @@ as-body a = record { stands = a .stands; named = a .named }
 pub has-stmt : {s tr : List ℕ} {i : ℕ} → HasBody s tr i → HasStmt s tr i
 has-stmt h = record { stmt = body (h .stmts); at = as-body (h .at) }
 
-pub is-body : {s tr : List ℕ} {i : ℕ} → HasBody s tr i → getD tr i 0 ≡ 12
+pub is-body : {s tr : List ℕ} {i : ℕ} → HasBody s tr i → getD tr i 0 ≡ nodeNo bodyKind
 is-body {s} {tr} {i} h = stmt-head tr i (body (h .stmts)) (as-body (h .at) .stands) .kind
 
 -- INT, the body and the return

@@ -14,7 +14,7 @@ use Rattle.numbers.specs.Panel.{tooManyInstructions}
 use Rattle.numbers.specs.Stack.{links}
 use Rattle.lexer.specs.Tokens.{Name}
 use Rattle.tree.specs.Tree.{Const, Stmts, Procs, noProcs, proc}
-use Rattle.tree.specs.Layout.{Nodes, noProceduresKind, procedureKind, half, noMore, member}
+use Rattle.tree.specs.Layout.{noProceduresKind, procedureKind, Nodes, half, noMore, member, nodeNo}
 use Rattle.tree.specs.Nodes.{constsNode, namesNode, procsNode, bodyNode}
 use Rattle.tree.specs.Named.{NamedProcs}
 use Rattle.tree.specs.Reading.{Two, two-at, next-at, After}
@@ -49,7 +49,7 @@ pub procs-fits : {s tr : List ℕ} {i : ℕ} {t : Procs} → ProcsAt s tr i t �
 procs-fits {s} {tr} {i} {t} a = procs-head tr i t (a .stands) .fits
 
 -- no procedures
-pub none-here : {s tr xs ds : List ℕ} {i : ℕ} (p : Place) → getD tr i 0 ≡ 17 → Start s xs ds p → (sc : Scope) → (t : Procs) → ProcsAt s tr i t → Means (procsCode t (p .level) sc (p .address) (rowsIn s xs (p .used)) (p .n)) s xs (p .used) ds (p .n) xs ds (Finished p)
+pub none-here : {s tr xs ds : List ℕ} {i : ℕ} (p : Place) → getD tr i 0 ≡ nodeNo noProceduresKind → Start s xs ds p → (sc : Scope) → (t : Procs) → ProcsAt s tr i t → Means (procsCode t (p .level) sc (p .address) (rowsIn s xs (p .used)) (p .n)) s xs (p .used) ds (p .n) xs ds (Finished p)
 unfolding procsCode drafted
 none-here {s} {tr} {xs} {ds} {i} p k g sc t a = of (procs-is (nodeHead noProceduresKind) tr i t k (a .stands))
   where
@@ -130,12 +130,12 @@ module _ {s tr : List ℕ} {i : ℕ} {n : Name} {ar : List Name} {cs : List Cons
   }
 
 -- what is not none is one
-is-proc : {s tr : List ℕ} {i : ℕ} → (getD tr i 0 ≡ 17 → ⊥) → (t : Procs) → ProcsAt s tr i t → ProcsIs (nodeHead procedureKind) t
+is-proc : {s tr : List ℕ} {i : ℕ} → (getD tr i 0 ≡ nodeNo noProceduresKind → ⊥) → (t : Procs) → ProcsAt s tr i t → ProcsIs (nodeHead procedureKind) t
 is-proc {s} {tr} {i} k noProcs a = absurd (k (procs-head tr i noProcs (a .stands) .kind))
 is-proc k (proc n ar cs vs inner b later) a = isProc n ar cs vs inner b later
 
 -- whatever the procedure is, if it holds of each
-pub of-proc : {s tr : List ℕ} {i : ℕ} (P : Procs → Type 0) → (getD tr i 0 ≡ 17 → ⊥)
+pub of-proc : {s tr : List ℕ} {i : ℕ} (P : Procs → Type 0) → (getD tr i 0 ≡ nodeNo noProceduresKind → ⊥)
     → ((n : Name) (ar : List Name) (cs : List Const) (vs : List Name) (inner : Procs) (b : Stmts) (later : Procs) → Nested s tr i n ar cs vs inner b later → P (proc n ar cs vs inner b later))
     → (t : Procs) → ProcsAt s tr i t → P t
 of-proc {s} {tr} {i} P k h t a = of (is-proc k t a) a
@@ -154,7 +154,7 @@ pub record HasNested (s tr : List ℕ) (i : ℕ) : Type 0 where
   pub later : Procs
   pub at : Nested s tr i name args consts vars inner stmts later
 
-pub has-nested : {s tr : List ℕ} {i : ℕ} → (getD tr i 0 ≡ 17 → ⊥) → HasProcs s tr i → HasNested s tr i
+pub has-nested : {s tr : List ℕ} {i : ℕ} → (getD tr i 0 ≡ nodeNo noProceduresKind → ⊥) → HasProcs s tr i → HasNested s tr i
 has-nested {s} {tr} {i} k h = of-proc (λ (t : Procs). HasNested s tr i) k (λ n ar cs vs inner b later x. record { name = n; args = ar; consts = cs; vars = vs; inner = inner; stmts = b; later = later; at = x }) (h .procs) (h .at)
 
 -- an instruction that was refused

@@ -6,7 +6,7 @@ use native.Mathlib.Omega.{arith}
 use lib.IntN.{ℤ}
 use lib.ListN.{length, getD}
 use Rattle.tree.specs.Tree.{Stmt, assign, ifThen, ifElse, while, call, body, readS, writeS, Stmts, last, more}
-use Rattle.tree.specs.Layout.{bodyKind, member, count}
+use Rattle.tree.specs.Layout.{assignKind, ifKind, whileKind, bodyKind, readKind, writeKind, member, nodeNo, count}
 use Rattle.tree.specs.Nodes.{listNodes, stmtNode, stmtNodes}
 use Rattle.tree.specs.Named.{Each, NamedStmt, NamedStmts}
 use Rattle.tree.specs.Reading.{branch-at}
@@ -74,13 +74,13 @@ pub body-end : (rs : List Row) {e : Env} {input : List ℕ} {lv : List ℤ} {lo 
 unfolding walkAll
 body-end rs {p} v h = done {q = p} v refl h (omega arith)
 
-pub the-body : {s tr : List ℕ} {i : ℕ} → getD tr i 0 ≡ 12 → HasStmt s tr i → (l : Stmts) × StmtAt s tr i (body l)
+pub the-body : {s tr : List ℕ} {i : ℕ} → getD tr i 0 ≡ nodeNo bodyKind → HasStmt s tr i → (l : Stmts) × StmtAt s tr i (body l)
 the-body {s} {tr} {i} k h = of (stmt-is (nodeHead bodyKind) tr i (h .stmt) k (h .at .stands)) (h .at)
   where
     of : {t : Stmt} → StmtIs (nodeHead bodyKind) t → StmtAt s tr i t → (l : Stmts) × StmtAt s tr i (body l)
     of (isBody l) a = (l, a)
 
-pub body-whole : (rs : List Row) (s tr : List ℕ) (i : ℕ) (e : Env) (input : List ℕ) (vars : List ℤ) (out : List ℕ) (p : Progress) {vars′ : List ℤ} {out′ : List ℕ} {r : Outcome} → getD tr i 0 ≡ 12
+pub body-whole : (rs : List Row) (s tr : List ℕ) (i : ℕ) (e : Env) (input : List ℕ) (vars : List ℤ) (out : List ℕ) (p : Progress) {vars′ : List ℤ} {out′ : List ℕ} {r : Outcome} → getD tr i 0 ≡ nodeNo bodyKind
     → ((l : Stmts) → StmtAt s tr i (body l) → (lv : List ℤ) (lo : List ℕ) (w : State) → Holds e input lv lo vars out p w → Ends e input lv lo vars′ out′ p (walkAll rs (length lo) (listed l) (p .clock .left) w) r)
     → (t : Stmt) → StmtAt s tr i t → (lv : List ℤ) (lo : List ℕ) (w : State) → Holds e input lv lo vars out p w → Ends e input lv lo vars′ out′ p (walkStmt rs (length lo) t (p .clock .left) w) r
 unfolding walkStmt
@@ -91,7 +91,7 @@ body-whole rs s tr i e input vars out p {vars′} {out′} {r} k f t a lv lo w h
 
 -- what is none of the others is a call, which is never met
 pub call-done : (rs : List Row) {s tr : List ℕ} {i : ℕ} {e : Env} {input : List ℕ} {vars : List ℤ} {out : List ℕ} {p : Progress}
-    → (getD tr i 0 ≡ 8 → ⊥) → (getD tr i 0 ≡ 9 → ⊥) → (getD tr i 0 ≡ 10 → ⊥) → (getD tr i 0 ≡ 12 → ⊥) → (getD tr i 0 ≡ 13 → ⊥) → (getD tr i 0 ≡ 14 → ⊥)
+    → (getD tr i 0 ≡ nodeNo assignKind → ⊥) → (getD tr i 0 ≡ nodeNo ifKind → ⊥) → (getD tr i 0 ≡ nodeNo whileKind → ⊥) → (getD tr i 0 ≡ nodeNo bodyKind → ⊥) → (getD tr i 0 ≡ nodeNo readKind → ⊥) → (getD tr i 0 ≡ nodeNo writeKind → ⊥)
     → (t : Stmt) → StmtAt s tr i t → (lv : List ℤ) (lo : List ℕ) (w : State) → Holds e input lv lo vars out p w → Ends e input lv lo vars out p (walkStmt rs (length lo) t (p .clock .left) w) (Done p)
 unfolding walkStmt
 call-done rs {s} {tr} {i} {e} {input} {vars} {out} {p} h8 h9 h10 h12 h13 h14 t a lv lo w h = of t (stmt-head tr i t (a .stands) .kind)

@@ -7,7 +7,7 @@ use lib.IntN.{ℤ, pos}
 use lib.ListN.{length, getD}
 use Rattle.numbers.specs.Arithmetic.{Arith, arith, Compare, Val, oddness}
 use Rattle.tree.specs.Tree.{Exp, chain, brackets, Chain, end, link, Cond, isOdd, rel}
-use Rattle.tree.specs.Layout.{negKind, chainKind, bracketsKind, oddKind, literal, noMore, member, count, enc, encs, Stands}
+use Rattle.tree.specs.Layout.{negKind, chainKind, bracketsKind, oddKind, literal, noMore, member, nameNo, numberNo, nodeNo, count, enc, encs, Stands}
 use Rattle.tree.specs.Nodes.{expNode, chainNodes, condNode, arithNo, compareNo}
 use Rattle.tree.specs.Named.{NamedExp, NamedChain, NamedCond}
 use Rattle.tree.specs.Reading.{word-at, branch-at, first-at, two-at, After}
@@ -62,7 +62,7 @@ gives-from l (halts h) = halts (record { is = h .is; less = omega (linear, h .le
 
 -- what a name, a number, a leading minus and brackets give
 module _ (rs : List Row) {s tr : List ℕ} {i : ℕ} {vars : List ℤ} {e : Env} {c : Clock} {r : Valued} where
-  pub exp-ref : (x y : ℤ) → getD tr i 0 ≡ 1 → y ≡ x → ((vs : List ℤ) → Cells vars (e .vars) vs → x ≡ valueIn (find rs (part s (getD tr (i + 2) 0) (getD tr (i + 3) 0)) mainScope) vs)
+  pub exp-ref : (x y : ℤ) → getD tr i 0 ≡ nameNo → y ≡ x → ((vs : List ℤ) → Cells vars (e .vars) vs → x ≡ valueIn (find rs (part s (getD tr (i + 2) 0) (getD tr (i + 3) 0)) mainScope) vs)
       → ((w : State) → w .top ≡ c .top → Gives (c .top + 1) c w (push y (c .left) w) r)
       → (t : Exp) → ExpAt s tr i t → (w : State) → Shows vars e c w → Gives (c .top + 1) c w (walkExp rs t (c .left) w) r
   unfolding expNode NamedExp walkExp
@@ -74,7 +74,7 @@ module _ (rs : List Row) {s tr : List ℕ} {i : ℕ} {vars : List ℤ} {e : Env}
           let z : y ≡ valueIn (find rs (m .text) mainScope) (w .vars) = q ∙ v (w .vars) (sh .cells) ∙ ap (λ (l : List ℕ). valueIn (find rs l mainScope) (w .vars)) (name-is {s = s} {n = m} (getD tr (i + 2) 0) (getD tr (i + 3) 0) (g .at2) (g .at3) (b .named)) in
           gives-as (ap (λ (v : ℤ). push v (c .left) w) (sym z)) (h w (sh .top))
 
-  pub exp-lit : (x y : ℤ) → getD tr i 0 ≡ 2 → y ≡ x → ((o v : ℕ) → Stands tr i (enc (literal o v)) → x ≡ pos v)
+  pub exp-lit : (x y : ℤ) → getD tr i 0 ≡ numberNo → y ≡ x → ((o v : ℕ) → Stands tr i (enc (literal o v)) → x ≡ pos v)
       → ((w : State) → w .top ≡ c .top → Gives (c .top + 1) c w (push y (c .left) w) r)
       → (t : Exp) → ExpAt s tr i t → (w : State) → Shows vars e c w → Gives (c .top + 1) c w (walkExp rs t (c .left) w) r
   unfolding expNode NamedExp walkExp
@@ -83,7 +83,7 @@ module _ (rs : List Row) {s tr : List ℕ} {i : ℕ} {vars : List ℤ} {e : Env}
       of : {u : Exp} → ExpIs numberHead u → ExpAt s tr i u → Gives (c .top + 1) c w (walkExp rs u (c .left) w) r
       of (isLit m) b = gives-as (ap (λ (v : ℤ). push v (c .left) w) (sym (q ∙ v (b .op) m (b .stands)))) (h w (sh .top))
 
-  pub exp-neg : getD tr i 0 ≡ 3 → ((t : Exp) → ExpAt s tr (i + 4) t → (w : State) → Shows vars e c w → Gives (c .top + 1) c w (negWalk rs t (c .left) w) r)
+  pub exp-neg : getD tr i 0 ≡ nodeNo negKind → ((t : Exp) → ExpAt s tr (i + 4) t → (w : State) → Shows vars e c w → Gives (c .top + 1) c w (negWalk rs t (c .left) w) r)
       → (t : Exp) → ExpAt s tr i t → (w : State) → Shows vars e c w → Gives (c .top + 1) c w (walkExp rs t (c .left) w) r
   unfolding expNode NamedExp walkExp
   exp-neg k h t a w sh = of (exp-by (nodeHead negKind) k a) a
@@ -151,7 +151,7 @@ module _ (rs : List Row) (s tr : List ℕ) (vars : List ℤ) (e : Env) (i : ℕ)
   abbrev pub Links : ℤ → Clock → Valued → Type 0
   Links x₀ d₀ r = (y : Exp) (l : Chain) → ExpAt s tr i (chain y l) → (w : State) → Shows vars e d₀ w → Gives (d₀ .top) d₀ w (walkChain rs l x₀ (d₀ .left) w) r
 
-  module _ (c : Clock) (k : getD tr i 0 ≡ 4) {r : Valued} (h : (t : Exp) → ExpAt s tr (i + 4) t → (w : State) → Shows vars e c w → Gives (c .top + 1) c w (walkExp rs t (c .left) w) r) where
+  module _ (c : Clock) (k : getD tr i 0 ≡ nodeNo chainKind) {r : Valued} (h : (t : Exp) → ExpAt s tr (i + 4) t → (w : State) → Shows vars e c w → Gives (c .top + 1) c w (walkExp rs t (c .left) w) r) where
     first-in : {y : Exp} {l : Chain} → ExpAt s tr i (chain y l) → ExpAt s tr (i + 4) y
     unfolding expNode NamedExp chainNodes
     first-in {y} {l} b = record { op = 0; stands = first-at tr i chainKind (b .op) (expNode 0 y) (chainNodes l) (b .stands) .one; named = b .named .0 }
@@ -250,13 +250,13 @@ module _ (rs : List Row) (s tr : List ℕ) (vars : List ℤ) (e : Env) (i : ℕ)
   cond-stop q (rel o x y) a w sh = gives-stop q (h x (at-left o x y a) w sh) (λ z. relWalk rs o z y)
 
   module _ {z : ℤ} {d : Clock} {q : Valued} (g : r ≡ Value z d) where
-    pub cond-odd : getD tr i 0 ≡ 6 → (v : Val) → v ≡ oddness z → ((w : State) → w .top ≡ d .top → Gives (d .top) d w (result (d .top) v (d .left) w) q)
+    pub cond-odd : getD tr i 0 ≡ nodeNo oddKind → (v : Val) → v ≡ oddness z → ((w : State) → w .top ≡ d .top → Gives (d .top) d w (result (d .top) v (d .left) w) q)
         → (t : Cond) → CondAt s tr i t → (w : State) → Shows vars e c w → Gives (c .top + 1) c w (walkCond rs t (c .left) w) q
     unfolding walkCond
     cond-odd k v p f (isOdd x) a w sh = on-one g (h x (at-odd x a) w sh) oddness v p f
     cond-odd k v p f (rel o x y) a w sh = absurd (omega (linear, k, cond-head tr i (rel o x y) (a .stands) .kind))
 
-    pub cond-rel : {j : ℕ} → (getD tr i 0 ≡ 6 → ⊥) → (x : ℤ) → x ≡ z → After tr (i + 4) j
+    pub cond-rel : {j : ℕ} → (getD tr i 0 ≡ nodeNo oddKind → ⊥) → (x : ℤ) → x ≡ z → After tr (i + 4) j
         → ((o : Compare) (t : Exp) → getD tr (i + 1) 0 ≡ compareNo o → ExpAt s tr j t → (w : State) → Shows vars e d w → Gives (d .top) d w (relWalk rs o x t (d .left) w) q)
         → (t : Cond) → CondAt s tr i t → (w : State) → Shows vars e c w → Gives (c .top + 1) c w (walkCond rs t (c .left) w) q
     unfolding walkCond

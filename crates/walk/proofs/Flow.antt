@@ -8,7 +8,7 @@ use lib.IntN.{ℤ, pos}
 use lib.ListN.{length, getD}
 use Rattle.numbers.specs.Arithmetic.{eqZ}
 use Rattle.tree.specs.Tree.{Cond, Stmt, ifThen, ifElse, while}
-use Rattle.tree.specs.Layout.{NodeKind, ifKind, whileKind, Nodes, branch, noMore, member, count, enc, Stands}
+use Rattle.tree.specs.Layout.{NodeKind, ifKind, whileKind, Nodes, branch, noMore, member, nodeNo, count, enc, Stands}
 use Rattle.tree.specs.Nodes.{condNode, stmtNode}
 use Rattle.tree.specs.Named.{NamedCond, NamedStmt}
 use Rattle.tree.specs.Reading.{Two, branch-at, first-at, next-at, After}
@@ -109,7 +109,7 @@ module _ (rs : List Row) {s tr : List ℕ} {i : ℕ} where
             (e, (λ room. refl), record { stands = w .one; named = x .named .1 .1 }, omega (arith, guard-inner a f .beyond, g (stmtNode t) (guard-next a f .one)), omega (arith, w .fits, w .least));
       }
 
-  if-at : getD tr i 0 ≡ 9 → (t : Stmt) → StmtAt s tr i t → IfAt rs s tr i t
+  if-at : getD tr i 0 ≡ nodeNo ifKind → (t : Stmt) → StmtAt s tr i t → IfAt rs s tr i t
   if-at k t x = of (stmt-is (nodeHead ifKind) tr i t k (x .stands)) x
     where
       of : {u : Stmt} → StmtIs (nodeHead ifKind) u → StmtAt s tr i u → IfAt rs s tr i u
@@ -117,7 +117,7 @@ module _ (rs : List Row) {s tr : List ℕ} {i : ℕ} where
       of (isElse c u e) y = if-else c u e y
 
 -- what stands there
-module _ {s tr : List ℕ} {i : ℕ} (k : getD tr i 0 ≡ 9) (h : HasStmt s tr i) where
+module _ {s tr : List ℕ} {i : ℕ} (k : getD tr i 0 ≡ nodeNo ifKind) (h : HasStmt s tr i) where
   found : IfAt [] s tr i (h .stmt)
   found = if-at [] k (h .stmt) (h .at)
 
@@ -131,7 +131,7 @@ module _ {s tr : List ℕ} {i : ℕ} (k : getD tr i 0 ≡ 9) (h : HasStmt s tr i
   if-other {j} {j₂} l f g = let v = found .long l j j₂ f g in record { has = record { stmt = v .0; at = v .2 }; beyond = v .3; fits = v .4 }
 
 -- how an `if` ends
-module _ (rs : List Row) (s tr : List ℕ) (i : ℕ) (e : Env) (input : List ℕ) (vars : List ℤ) (out : List ℕ) (p : Progress) {r : Tested} (k : getD tr i 0 ≡ 9)
+module _ (rs : List Row) (s tr : List ℕ) (i : ℕ) (e : Env) (input : List ℕ) (vars : List ℤ) (out : List ℕ) (p : Progress) {r : Tested} (k : getD tr i 0 ≡ nodeNo ifKind)
     (x : (t : Cond) → CondAt s tr (i + 4) t → (input : List ℕ) (lv : List ℤ) (lo out : List ℕ) (w : State) → Holds e input lv lo vars out p w → Tests e input lv lo vars out p (testWalk rs t (p .clock .left) w) r) where
   abbrev Meet : List ℤ → List ℕ → Outcome → Type 0
   Meet vars′ out′ q = (t : Stmt) → StmtAt s tr i t → (lv : List ℤ) (lo : List ℕ) (w : State) → Holds e input lv lo vars out p w → Ends e input lv lo vars′ out′ p (walkStmt rs (length lo) t (p .clock .left) w) q
@@ -167,16 +167,16 @@ module _ {s tr : List ℕ} {i : ℕ} where
   unfolding stmtNode NamedStmt
   while-guard x = record { kind = whileKind; others = noMore; stands = x .stands; cond-named = x .named .0; stmt-named = x .named .1 }
 
-  the-while : getD tr i 0 ≡ 10 → HasStmt s tr i → (c : Cond) × (t : Stmt) × StmtAt s tr i (while c t)
+  the-while : getD tr i 0 ≡ nodeNo whileKind → HasStmt s tr i → (c : Cond) × (t : Stmt) × StmtAt s tr i (while c t)
   the-while k h = of (stmt-is (nodeHead whileKind) tr i (h .stmt) k (h .at .stands)) (h .at)
     where
       of : {t : Stmt} → StmtIs (nodeHead whileKind) t → StmtAt s tr i t → (c : Cond) × (t : Stmt) × StmtAt s tr i (while c t)
       of (isWhile c t) a = (c, t, a)
 
-  pub while-cond : getD tr i 0 ≡ 10 → HasStmt s tr i → HasCond s tr (i + 4)
+  pub while-cond : getD tr i 0 ≡ nodeNo whileKind → HasStmt s tr i → HasCond s tr (i + 4)
   while-cond k h = let w = the-while k h in record { cond = w .0; at = guard-cond (while-guard (w .2)) }
 
-  pub while-inner : {j : ℕ} → getD tr i 0 ≡ 10 → HasStmt s tr i → After tr (i + 4) j → Further s tr i j
+  pub while-inner : {j : ℕ} → getD tr i 0 ≡ nodeNo whileKind → HasStmt s tr i → After tr (i + 4) j → Further s tr i j
   while-inner k h f = let w = the-while k h in guard-inner (while-guard (w .2)) f
 
 -- where the laps stand for one state at their start
@@ -225,7 +225,7 @@ module _ (rs : List Row) (s tr : List ℕ) (i : ℕ) (e : Env) (input : List ℕ
   abbrev Whole : List ℤ → List ℕ → Outcome → Type 0
   Whole vars′ out′ r = (t : Stmt) → StmtAt s tr i t → (lv : List ℤ) (lo : List ℕ) (w : State) → Holds e input lv lo vars₀ out₀ p w → Ends e input lv lo vars′ out′ p (walkStmt rs (length lo) t (p .clock .left) w) r
 
-  by-while : {vars′ : List ℤ} {out′ : List ℕ} {r : Outcome} → getD tr i 0 ≡ 10
+  by-while : {vars′ : List ℤ} {out′ : List ℕ} {r : Outcome} → getD tr i 0 ≡ nodeNo whileKind
       → ((c : Cond) (t : Stmt) → StmtAt s tr i (while c t) → (lv : List ℤ) (lo : List ℕ) (w : State) → Holds e input lv lo vars₀ out₀ p w → Ends e input lv lo vars′ out′ p (walkStmt rs (length lo) (while c t) (p .clock .left) w) r) → Whole vars′ out′ r
   by-while {vars′} {out′} {r} k f t a lv lo w h = of (stmt-is (nodeHead whileKind) tr i t k (a .stands)) a
     where
@@ -234,7 +234,7 @@ module _ (rs : List Row) (s tr : List ℕ) (i : ℕ) (e : Env) (input : List ℕ
 
   module _ (vars : List ℤ) (out : List ℕ) (q : Progress) (l : Laps rs s tr i e input vars₀ out₀ p vars out q) where
     -- a state is held all along
-    pub laps-held : getD tr i 0 ≡ 10 → HasStmt s tr i → HasState e input vars₀ out₀ p → HasState e input vars out q
+    pub laps-held : getD tr i 0 ≡ nodeNo whileKind → HasStmt s tr i → HasState e input vars₀ out₀ p → HasState e input vars out q
     laps-held k x h =
         let t = the-while k x in
         let g = l (t .0) (t .1) (t .2) (h .lv) (h .lo) (h .state) (h .holds) in
@@ -251,19 +251,19 @@ module _ (rs : List Row) (s tr : List ℕ) (i : ℕ) (e : Env) (input : List ℕ
           of zero h y = absurd (omega (arith, h))
           of (suc n) h y = ends-as (sym (y ∙ lap-is n (walkCond rs c) (walkStmt rs (length lo) t) (q .clock .left) (g .state))) (ends-from p (g .less) (f n))
 
-      pub laps-stop : {m : ℕ} {d : Progress} → getD tr i 0 ≡ 10 → r ≡ Stopped m d → Whole vars out (Refused m d)
+      pub laps-stop : {m : ℕ} {d : Progress} → getD tr i 0 ≡ nodeNo whileKind → r ≡ Stopped m d → Whole vars out (Refused m d)
       laps-stop k y = by-while k (λ c t a lv lo w h.
           let g = l c t a lv lo w h in
           on lv lo w g (λ n. tests-stop (x c (guard-cond (while-guard a)) input lv lo out (g .state) (g .holds)) y (λ z. whether (eqZ z (pos 0)) (pure tt) (lapWalk rs (length lo) c t n))))
 
-      pub laps-done : {d : Progress} → getD tr i 0 ≡ 10 → r ≡ Failed d → Whole vars out (Done d)
+      pub laps-done : {d : Progress} → getD tr i 0 ≡ nodeNo whileKind → r ≡ Failed d → Whole vars out (Done d)
       laps-done {d} k y = by-while k (λ c t a lv lo w h.
           let g = l c t a lv lo w h in
           on lv lo w g (λ n. on-failed (x c (guard-cond (while-guard a)) input lv lo out (g .state) (g .holds)) (pure tt) (lapWalk rs (length lo) c t n) y (λ v held. done {q = d} v refl held (omega arith))))
 
       module _ {d : Progress} (y : r ≡ Passed d) {j : ℕ} (f : After tr (i + 4) j) (vars′ : List ℤ) (out′ : List ℕ) {u : Outcome}
           (part : (t : Stmt) → StmtAt s tr j t → (lv : List ℤ) (lo : List ℕ) (w : State) → Holds e input lv lo vars out d w → Ends e input lv lo vars′ out′ d (partWalk rs (length lo) t (d .clock .left) w) u) where
-        pub laps-halt : {m : ℕ} {g : Progress} → getD tr i 0 ≡ 10 → u ≡ Refused m g → Whole vars′ out′ u
+        pub laps-halt : {m : ℕ} {g : Progress} → getD tr i 0 ≡ nodeNo whileKind → u ≡ Refused m g → Whole vars′ out′ u
         laps-halt k z = by-while k (λ c t a lv lo w h.
             let g = l c t a lv lo w h in
             on lv lo w g (λ n. on-passed (x c (guard-cond (while-guard a)) input lv lo out (g .state) (g .holds)) (pure tt) (lapWalk rs (length lo) c t n) y
@@ -275,7 +275,7 @@ module _ (rs : List Row) (s tr : List ℕ) (i : ℕ) (e : Env) (input : List ℕ
             let b = tests-passed (x c (guard-cond (while-guard a)) input lv lo out (o .state) (o .holds)) y in
             lap-next o b (rw z at (part t (guard-stmt (while-guard a) f) lv lo (b .state) (b .holds)))
 
-        pub laps-less : {g : Progress} → getD tr i 0 ≡ 10 → HasStmt s tr i → HasState e input vars₀ out₀ p → u ≡ Done g → g .clock .left < q .clock .left
+        pub laps-less : {g : Progress} → getD tr i 0 ≡ nodeNo whileKind → HasStmt s tr i → HasState e input vars₀ out₀ p → u ≡ Done g → g .clock .left < q .clock .left
         laps-less {g} k here h z =
             let t = the-while k here in
             let o = l (t .0) (t .1) (t .2) (h .lv) (h .lo) (h .state) (h .holds) in

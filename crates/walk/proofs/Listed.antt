@@ -8,7 +8,7 @@ use lib.ListN.{length, getD, drop, length-append}
 use Rattle.numbers.specs.Screen.{newline}
 use Rattle.lexer.specs.Tokens.{Name}
 use Rattle.tree.specs.Tree.{Exp, Stmt, readS, writeS}
-use Rattle.tree.specs.Layout.{readKind, writeKind}
+use Rattle.tree.specs.Layout.{readKind, writeKind, nodeNo}
 use Rattle.tree.specs.Nodes.{listNodes, nameNode, expNode, expNodes, stmtNode}
 use Rattle.tree.specs.Named.{NameIn, NamedExp, NamedStmt}
 use Rattle.tree.specs.Reading.{branch-at}
@@ -56,13 +56,13 @@ unfolding walkReads
 reads-end rs {p} v h = done {q = p} v refl h (omega arith)
 
 module _ {s tr : List ℕ} {i : ℕ} where
-  pub the-read : getD tr i 0 ≡ 13 → HasStmt s tr i → (ns : List Name) × StmtAt s tr i (readS ns)
+  pub the-read : getD tr i 0 ≡ nodeNo readKind → HasStmt s tr i → (ns : List Name) × StmtAt s tr i (readS ns)
   the-read k h = of (stmt-is (nodeHead readKind) tr i (h .stmt) k (h .at .stands)) (h .at)
     where
       of : {t : Stmt} → StmtIs (nodeHead readKind) t → StmtAt s tr i t → (ns : List Name) × StmtAt s tr i (readS ns)
       of (isRead ns) a = (ns, a)
 
-pub reads-whole : (rs : List Row) (s tr : List ℕ) (i : ℕ) (e : Env) (input : List ℕ) (vars : List ℤ) (out : List ℕ) (p : Progress) {vars′ : List ℤ} {out′ : List ℕ} {r : Outcome} → getD tr i 0 ≡ 13
+pub reads-whole : (rs : List Row) (s tr : List ℕ) (i : ℕ) (e : Env) (input : List ℕ) (vars : List ℤ) (out : List ℕ) (p : Progress) {vars′ : List ℤ} {out′ : List ℕ} {r : Outcome} → getD tr i 0 ≡ nodeNo readKind
     → ((ns : List Name) → StmtAt s tr i (readS ns) → (lv : List ℤ) (lo : List ℕ) (w : State) → Holds e input lv lo vars out p w → Ends e input lv lo vars′ out′ p (walkReads rs (length lo) ns (p .clock .left) w) r)
     → (t : Stmt) → StmtAt s tr i t → (lv : List ℤ) (lo : List ℕ) (w : State) → Holds e input lv lo vars out p w → Ends e input lv lo vars′ out′ p (walkStmt rs (length lo) t (p .clock .left) w) r
 unfolding walkStmt
@@ -93,13 +93,13 @@ pub writes-end : (rs : List Row) {e : Env} {input : List ℕ} {lv : List ℤ} {l
 unfolding walkWrites
 writes-end rs {e} {input} {lv} {lo} {vars} f v h = f e input lv lo vars v h
 
-pub the-write : {s tr : List ℕ} {i : ℕ} → getD tr i 0 ≡ 14 → HasStmt s tr i → (es : List Exp) × StmtAt s tr i (writeS es)
+pub the-write : {s tr : List ℕ} {i : ℕ} → getD tr i 0 ≡ nodeNo writeKind → HasStmt s tr i → (es : List Exp) × StmtAt s tr i (writeS es)
 the-write {s} {tr} {i} k h = of (stmt-is (nodeHead writeKind) tr i (h .stmt) k (h .at .stands)) (h .at)
   where
     of : {t : Stmt} → StmtIs (nodeHead writeKind) t → StmtAt s tr i t → (es : List Exp) × StmtAt s tr i (writeS es)
     of (isWrite es) a = (es, a)
 
-pub writes-whole : (rs : List Row) (s tr : List ℕ) (i : ℕ) (e : Env) (vars : List ℤ) (out : List ℕ) (p : Progress) {out′ : List ℕ} {r : Outcome} → getD tr i 0 ≡ 14
+pub writes-whole : (rs : List Row) (s tr : List ℕ) (i : ℕ) (e : Env) (vars : List ℤ) (out : List ℕ) (p : Progress) {out′ : List ℕ} {r : Outcome} → getD tr i 0 ≡ nodeNo writeKind
     → ((es : List Exp) → StmtAt s tr i (writeS es) → (input : List ℕ) (lv : List ℤ) (lo : List ℕ) (w : State) → Holds e input lv lo vars out p w → Ends e input lv lo vars out′ p (walkWrites rs (length lo) es (p .clock .left) w) r)
     → (t : Stmt) → StmtAt s tr i t → (input : List ℕ) (lv : List ℤ) (lo : List ℕ) (w : State) → Holds e input lv lo vars out p w → Ends e input lv lo vars out′ p (walkStmt rs (length lo) t (p .clock .left) w) r
 unfolding walkStmt

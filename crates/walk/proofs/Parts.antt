@@ -8,7 +8,7 @@ use Rattle.numbers.specs.Limits.{greatest}
 use Rattle.numbers.specs.Arithmetic.{Compare}
 use Rattle.lexer.specs.Tokens.{Name}
 use Rattle.tree.specs.Tree.{Exp, lit, ref, neg, chain, brackets, Chain, Cond, isOdd, rel}
-use Rattle.tree.specs.Layout.{negKind, chainKind, bracketsKind, oddKind, comparisonKind, literal, noMore, member, enc, Stands}
+use Rattle.tree.specs.Layout.{negKind, chainKind, bracketsKind, oddKind, comparisonKind, literal, noMore, member, nameNo, numberNo, nodeNo, enc, Stands}
 use Rattle.tree.specs.Nodes.{expNode, chainNodes, condNode, compareNo}
 use Rattle.tree.specs.Named.{NameIn, NamedExp, NamedCond}
 use Rattle.tree.specs.Reading.{word-at, first-at, next-at, After}
@@ -35,7 +35,7 @@ module _ {s tr : List ℕ} {i : ℕ} where
   unfolding expNode NamedExp
   ref-fits (isRef n) a = let f = word-at tr i (a .op) (n .at) (length (n .text)) (a .stands) in omega (arith, f .at2, f .at3, a .named .fits)
 
-  pub ref-in : getD tr i 0 ≡ 1 → HasExp s tr i → getD tr (i + 2) 0 + getD tr (i + 3) 0 ≤ length s
+  pub ref-in : getD tr i 0 ≡ nameNo → HasExp s tr i → getD tr (i + 2) 0 + getD tr (i + 3) 0 ≤ length s
   ref-in k h = ref-fits (exp-by nameHead k (h .at)) (h .at)
 
   -- a negated term
@@ -44,12 +44,12 @@ module _ {s tr : List ℕ} {i : ℕ} where
   unfolding expNode NamedExp
   neg-inner (isNeg e) a = record { exp = e; at = record { op = 0; stands = first-at tr i negKind (a .op) (expNode 0 e) noMore (a .stands) .one; named = a .named } }
 
-  pub has-neg : getD tr i 0 ≡ 3 → HasExp s tr i → HasExp s tr (i + 4)
+  pub has-neg : getD tr i 0 ≡ nodeNo negKind → HasExp s tr i → HasExp s tr (i + 4)
   has-neg k h = neg-inner (exp-by (nodeHead negKind) k (h .at)) (h .at)
 
   -- brackets, where it is nothing else
 
-  pub is-brackets : {t : Exp} → (getD tr i 0 ≡ 4 → ⊥) → (getD tr i 0 ≡ 1 → ⊥) → (getD tr i 0 ≡ 2 → ⊥) → (getD tr i 0 ≡ 3 → ⊥) → ExpAt s tr i t → ExpIs (nodeHead bracketsKind) t
+  pub is-brackets : {t : Exp} → (getD tr i 0 ≡ nodeNo chainKind → ⊥) → (getD tr i 0 ≡ nameNo → ⊥) → (getD tr i 0 ≡ numberNo → ⊥) → (getD tr i 0 ≡ nodeNo negKind → ⊥) → ExpAt s tr i t → ExpIs (nodeHead bracketsKind) t
   is-brackets {t} a b c d at = of t at
     where
       of : (u : Exp) → ExpAt s tr i u → ExpIs (nodeHead bracketsKind) u
@@ -63,7 +63,7 @@ module _ {s tr : List ℕ} {i : ℕ} where
   unfolding expNode NamedExp
   brackets-inner (isBrackets e) a = record { exp = e; at = record { op = 0; stands = first-at tr i bracketsKind (a .op) (expNode 0 e) noMore (a .stands) .one; named = a .named } }
 
-  pub has-brackets : (getD tr i 0 ≡ 4 → ⊥) → (getD tr i 0 ≡ 1 → ⊥) → (getD tr i 0 ≡ 2 → ⊥) → (getD tr i 0 ≡ 3 → ⊥) → HasExp s tr i → HasExp s tr (i + 4)
+  pub has-brackets : (getD tr i 0 ≡ nodeNo chainKind → ⊥) → (getD tr i 0 ≡ nameNo → ⊥) → (getD tr i 0 ≡ numberNo → ⊥) → (getD tr i 0 ≡ nodeNo negKind → ⊥) → HasExp s tr i → HasExp s tr (i + 4)
   has-brackets a b c d h = brackets-inner (is-brackets a b c d (h .at)) (h .at)
 
   -- the first operand of a chain
@@ -72,11 +72,11 @@ module _ {s tr : List ℕ} {i : ℕ} where
   unfolding expNode NamedExp
   chain-first (isChain e c) a = record { exp = e; at = record { op = 0; stands = first-at tr i chainKind (a .op) (expNode 0 e) (chainNodes c) (a .stands) .one; named = a .named .0 } }
 
-  pub has-first : getD tr i 0 ≡ 4 → HasExp s tr i → HasExp s tr (i + 4)
+  pub has-first : getD tr i 0 ≡ nodeNo chainKind → HasExp s tr i → HasExp s tr (i + 4)
   has-first k h = chain-first (exp-by (nodeHead chainKind) k (h .at)) (h .at)
 
 -- the chain that stands there
-pub the-chain : {s tr : List ℕ} {i : ℕ} → getD tr i 0 ≡ 4 → HasExp s tr i → (w : Exp × Chain) × ExpAt s tr i (chain (w .0) (w .1))
+pub the-chain : {s tr : List ℕ} {i : ℕ} → getD tr i 0 ≡ nodeNo chainKind → HasExp s tr i → (w : Exp × Chain) × ExpAt s tr i (chain (w .0) (w .1))
 the-chain {s} {tr} {i} k h = of (exp-by (nodeHead chainKind) k (h .at)) (h .at)
   where
     of : {u : Exp} → ExpIs (nodeHead chainKind) u → ExpAt s tr i u → (w : Exp × Chain) × ExpAt s tr i (chain (w .0) (w .1))
@@ -92,11 +92,11 @@ module _ {s tr : List ℕ} {i : ℕ} where
   unfolding condNode NamedCond
   odd-inner (isOddness e) a = record { exp = e; at = record { op = 0; stands = first-at tr i oddKind 0 (expNode 0 e) noMore (a .stands) .one; named = a .named } }
 
-  pub has-odd : getD tr i 0 ≡ 6 → HasCond s tr i → HasExp s tr (i + 4)
+  pub has-odd : getD tr i 0 ≡ nodeNo oddKind → HasCond s tr i → HasExp s tr (i + 4)
   has-odd k h = odd-inner (cond-is (nodeHead oddKind) tr i (h .cond) k (h .at .stands)) (h .at)
 
   -- not `odd`, so a comparison
-  pub is-rel : (getD tr i 0 ≡ 6 → ⊥) → (t : Cond) → CondAt s tr i t → CondIs (nodeHead comparisonKind) t
+  pub is-rel : (getD tr i 0 ≡ nodeNo oddKind → ⊥) → (t : Cond) → CondAt s tr i t → CondIs (nodeHead comparisonKind) t
   is-rel k (isOdd e) a = absurd (k (cond-head tr i (isOdd e) (a .stands) .kind))
   is-rel k (rel o x y) a = isRel o x y
 
@@ -108,13 +108,13 @@ module _ {s tr : List ℕ} {i : ℕ} where
   unfolding condNode NamedCond
   at-right {j} o x y f a = record { op = 0; stands = next-at tr (i + 4) j (expNode 0 x) (expNode 0 y) noMore f (first-at tr i comparisonKind (compareNo o) (expNode 0 x) (member (expNode 0 y) noMore) (a .stands)) .one; named = a .named .1 }
 
-  pub has-left : (getD tr i 0 ≡ 6 → ⊥) → HasCond s tr i → HasExp s tr (i + 4)
+  pub has-left : (getD tr i 0 ≡ nodeNo oddKind → ⊥) → HasCond s tr i → HasExp s tr (i + 4)
   has-left k h = of (is-rel k (h .cond) (h .at)) (h .at)
     where
       of : {t : Cond} → CondIs (nodeHead comparisonKind) t → CondAt s tr i t → HasExp s tr (i + 4)
       of (isRel o x y) a = record { exp = x; at = at-left o x y a }
 
-  pub has-right : {j : ℕ} → (getD tr i 0 ≡ 6 → ⊥) → After tr (i + 4) j → HasCond s tr i → HasExp s tr j
+  pub has-right : {j : ℕ} → (getD tr i 0 ≡ nodeNo oddKind → ⊥) → After tr (i + 4) j → HasCond s tr i → HasExp s tr j
   has-right {j} k f h = of (is-rel k (h .cond) (h .at)) (h .at)
     where
       of : {t : Cond} → CondIs (nodeHead comparisonKind) t → CondAt s tr i t → HasExp s tr j
@@ -126,5 +126,5 @@ module _ {s tr : List ℕ} {i : ℕ} where
   unfolding expNode NamedExp
   lit-value (isLit v) a = (a .op, v, a .stands, a .named)
 
-  pub literal-in : getD tr i 0 ≡ 2 → HasExp s tr i → (o v : ℕ) × Stands tr i (enc (literal o v)) × (v ≤ greatest)
+  pub literal-in : getD tr i 0 ≡ numberNo → HasExp s tr i → (o v : ℕ) × Stands tr i (enc (literal o v)) × (v ≤ greatest)
   literal-in k h = lit-value (exp-by numberHead k (h .at)) (h .at)

@@ -9,7 +9,7 @@ use Rattle.numbers.specs.Panel.{budgetSpent}
 use Rattle.numbers.specs.Lent.{onto}
 use Rattle.lexer.specs.Tokens.{Name}
 use Rattle.tree.specs.Tree.{Exp, Stmt, assign}
-use Rattle.tree.specs.Layout.{assignKind, noMore, member, size}
+use Rattle.tree.specs.Layout.{assignKind, noMore, member, nodeNo, size}
 use Rattle.tree.specs.Nodes.{nameNode, expNode, stmtNode}
 use Rattle.tree.specs.Named.{NamedStmt}
 use Rattle.tree.specs.Reading.{word-at, first-at, two-at}
@@ -82,22 +82,22 @@ module _ {s tr : List ℕ} {i : ℕ} where
       let q : i + 4 + 4 ≡ i + 8 = omega arith in
       record { op = 0; stands = two-at tr (i + 8) (expNode 0 x) noMore (rw q at (f .others)) .one; named = a .named .1 }
 
-  assign-is : getD tr i 0 ≡ 8 → {t : Stmt} → StmtAt s tr i t → StmtIs (nodeHead assignKind) t
+  assign-is : getD tr i 0 ≡ nodeNo assignKind → {t : Stmt} → StmtAt s tr i t → StmtIs (nodeHead assignKind) t
   assign-is k {t} a = stmt-is (nodeHead assignKind) tr i t k (a .stands)
 
-  pub has-target : getD tr i 0 ≡ 8 → HasStmt s tr i → HasName s tr (i + 4)
+  pub has-target : getD tr i 0 ≡ nodeNo assignKind → HasStmt s tr i → HasName s tr (i + 4)
   has-target k h = of (assign-is k (h .at)) (h .at)
     where
       of : {t : Stmt} → StmtIs (nodeHead assignKind) t → StmtAt s tr i t → HasName s tr (i + 4)
       of (isAssign n x) a = record { name = n; at = assign-name a }
 
-  pub has-value : getD tr i 0 ≡ 8 → HasStmt s tr i → HasExp s tr (i + 8)
+  pub has-value : getD tr i 0 ≡ nodeNo assignKind → HasStmt s tr i → HasExp s tr (i + 8)
   has-value k h = of (assign-is k (h .at)) (h .at)
     where
       of : {t : Stmt} → StmtIs (nodeHead assignKind) t → StmtAt s tr i t → HasExp s tr (i + 8)
       of (isAssign n x) a = record { exp = x; at = assign-exp a }
 
-module _ (rs : List Row) (s tr : List ℕ) (i : ℕ) (e : Env) (vars : List ℤ) (p : Progress) (k : getD tr i 0 ≡ 8) {r : Valued} (x : (t : Exp) → ExpAt s tr (i + 8) t → (w : State) → Shows vars e (p .clock) w → Gives (p .clock .top + 1) (p .clock) w (walkExp rs t (p .clock .left) w) r) where
+module _ (rs : List Row) (s tr : List ℕ) (i : ℕ) (e : Env) (vars : List ℤ) (p : Progress) (k : getD tr i 0 ≡ nodeNo assignKind) {r : Valued} (x : (t : Exp) → ExpAt s tr (i + 8) t → (w : State) → Shows vars e (p .clock) w → Gives (p .clock .top + 1) (p .clock) w (walkExp rs t (p .clock .left) w) r) where
   abbrev Meet : List ℤ → Outcome → Type 0
   Meet vars′ q = (t : Stmt) → StmtAt s tr i t → (room : ℕ) (input : List ℕ) (lv : List ℤ) (lo out : List ℕ) (w : State) → Holds e input lv lo vars out p w → Ends e input lv lo vars′ out p (walkStmt rs room t (p .clock .left) w) q
 

@@ -13,7 +13,7 @@ use Rattle.numbers.specs.Stack.{links}
 use Rattle.numbers.specs.Lent.{onto}
 use Rattle.lexer.specs.Tokens.{Name}
 use Rattle.tree.specs.Tree.{Procs, noProcs, proc, Stmt, body, Block}
-use Rattle.tree.specs.Layout.{listKind, blockKind, noMore, member, count, enc, Stands}
+use Rattle.tree.specs.Layout.{listKind, noProceduresKind, blockKind, noMore, member, nodeNo, count, enc, Stands}
 use Rattle.tree.specs.Nodes.{listNodes, nameNode, constsNode, namesNode, procsNode, stmtNode, bodyNode, blockNode}
 use Rattle.tree.specs.Named.{Each, NamedStmt}
 use Rattle.tree.specs.Reading.{Two, branch-at, first-at, next-at, After}
@@ -49,10 +49,10 @@ module _ {tr : List ℕ} (b : Block) (st : Stands tr 0 (enc (blockNode b))) wher
       pub procs-at : Two tr j (procsNode (b .procs)) (member (bodyNode (b .main)) noMore)
       procs-at = next-at tr i j (namesNode (b .vars)) (procsNode (b .procs)) (member (bodyNode (b .main)) noMore) g names-at
 
-      pub procs-said : not (eqb (getD tr j 0) 17) ≡ anyProcs (b .procs)
+      pub procs-said : not (eqb (getD tr j 0) (nodeNo noProceduresKind)) ≡ anyProcs (b .procs)
       procs-said = of (b .procs) (procs-head tr j (b .procs) (procs-at .one) .kind)
         where
-          of : (t : Procs) → getD tr j 0 ≡ procsNo t → not (eqb (getD tr j 0) 17) ≡ anyProcs t
+          of : (t : Procs) → getD tr j 0 ≡ procsNo t → not (eqb (getD tr j 0) (nodeNo noProceduresKind)) ≡ anyProcs t
           of noProcs k = rw k
           of (proc n ar cs vs inner m later) k = rw k
 

@@ -18,6 +18,7 @@ ghost use Rattle.numbers.specs.Stack.{links};
 ghost use Rattle.numbers.specs.Arithmetic.{Arith, arith, Compare, compare};
 ghost use Rattle.numbers.specs.Answers.{valOf};
 ghost use Rattle.tree.specs.Tree.{Exp, Cond};
+ghost use Rattle.tree.specs.Layout.{chainKind, nodeNo};
 ghost use Rattle.tree.specs.Nodes.{arithNo, compareNo};
 ghost use Rattle.symbols.specs.Symbols.{mainScope, find};
 ghost use Rattle.symbols.specs.Table.{part};
@@ -285,7 +286,7 @@ fn chain(
 ) -> Valued
     requires { ⌜ Known (now text) (now table) env (now vars) ⌝ }
     requires { ⌜ HasExp (now text) (now tree) i ⌝ }
-    requires { ⌜ getD (now tree) i 0 ≡ 4 ⌝ }
+    requires { ⌜ getD (now tree) i 0 ≡ nodeNo chainKind ⌝ }
     ensures { λ r. ⌜ ((t : Exp) → ExpAt (now (text .entry)) (now (tree .entry)) i t → (w : State) → Shows (now (vars .entry)) env c w → Gives (c .top + 1) c w (walkExp (rowsOf (now (text .entry)) (now (table .entry)) env) t (c .left) w) r) ⌝ }
 {
     let count = tree::number_at(tree, i + 2);

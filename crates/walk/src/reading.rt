@@ -16,6 +16,7 @@ ghost use lib.IntN.{ℤ};
 ghost use lib.ListN.{length, getD};
 ghost use Rattle.lexer.specs.Tokens.{Name};
 ghost use Rattle.tree.specs.Tree.{Stmt};
+ghost use Rattle.tree.specs.Layout.{readKind, nodeNo};
 ghost use Rattle.walk.specs.Walk.{State, walkStmt};
 ghost use Rattle.walk.specs.Meets.{rowsOf};
 ghost use Rattle.walk.specs.Holds.{NameAt, HasName, StmtAt, HasStmt, Rows, Holds, HasState, Ends, Enters, readWalk};
@@ -105,7 +106,7 @@ pub fn reads(
 ) -> Outcome
     requires { ⌜ Rows (now text) (now table) env ⌝ }
     requires { ⌜ HasStmt (now text) (now tree) i ⌝ }
-    requires { ⌜ getD (now tree) i 0 ≡ 13 ⌝ }
+    requires { ⌜ getD (now tree) i 0 ≡ nodeNo readKind ⌝ }
     requires { ⌜ HasState env (now input) (now vars) (now out) p ⌝ }
     ensures { λ r. ⌜ ((t : Stmt) → StmtAt (now (text .entry)) (now (tree .entry)) i t → (lv : List ℤ) (lo : List ℕ) (w : State) → Holds env (now (input .entry)) lv lo (now (vars .entry)) (now (out .entry)) p w → Ends env (now (input .entry)) lv lo (now (vars .exit)) (now (out .exit)) p (walkStmt (rowsOf (now (text .entry)) (now (table .entry)) env) (length lo) t (p .clock .left) w) r) ⌝ }
 {

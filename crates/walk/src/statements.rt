@@ -15,6 +15,7 @@ ghost use Prim.Native.Nat.{ℕ};
 ghost use lib.IntN.{ℤ};
 ghost use lib.ListN.{length, getD};
 ghost use Rattle.tree.specs.Tree.{Cond, Stmt};
+ghost use Rattle.tree.specs.Layout.{ifKind, whileKind, bodyKind, nodeNo};
 ghost use Rattle.walk.specs.Walk.{State, walkStmt};
 ghost use Rattle.walk.specs.Meets.{Known, rowsOf, CondAt, HasCond};
 ghost use Rattle.walk.specs.Holds.{StmtAt, HasStmt, Rows, Holds, HasState, Ends};
@@ -98,7 +99,7 @@ fn conditional(
 ) -> Outcome
     requires { ⌜ Rows (now text) (now table) env ⌝ }
     requires { ⌜ HasStmt (now text) (now tree) i ⌝ }
-    requires { ⌜ getD (now tree) i 0 ≡ 9 ⌝ }
+    requires { ⌜ getD (now tree) i 0 ≡ nodeNo ifKind ⌝ }
     requires { ⌜ HasState env (now input) (now vars) (now out) p ⌝ }
     ensures { λ r. ⌜ ((t : Stmt) → StmtAt (now (text .entry)) (now (tree .entry)) i t → (lv : List ℤ) (lo : List ℕ) (w : State) → Holds env (now (input .entry)) lv lo (now (vars .entry)) (now (out .entry)) p w → Ends env (now (input .entry)) lv lo (now (vars .exit)) (now (out .exit)) p (walkStmt (rowsOf (now (text .entry)) (now (table .entry)) env) (length lo) t (p .clock .left) w) r) ⌝ }
 {
@@ -131,7 +132,7 @@ fn looped(
 ) -> Outcome
     requires { ⌜ Rows (now text) (now table) env ⌝ }
     requires { ⌜ HasStmt (now text) (now tree) i ⌝ }
-    requires { ⌜ getD (now tree) i 0 ≡ 10 ⌝ }
+    requires { ⌜ getD (now tree) i 0 ≡ nodeNo whileKind ⌝ }
     requires { ⌜ HasState env (now input) (now vars) (now out) p ⌝ }
     ensures { λ r. ⌜ ((t : Stmt) → StmtAt (now (text .entry)) (now (tree .entry)) i t → (lv : List ℤ) (lo : List ℕ) (w : State) → Holds env (now (input .entry)) lv lo (now (vars .entry)) (now (out .entry)) p w → Ends env (now (input .entry)) lv lo (now (vars .exit)) (now (out .exit)) p (walkStmt (rowsOf (now (text .entry)) (now (table .entry)) env) (length lo) t (p .clock .left) w) r) ⌝ }
 {
@@ -167,7 +168,7 @@ pub fn body(
 ) -> Outcome
     requires { ⌜ Rows (now text) (now table) env ⌝ }
     requires { ⌜ HasStmt (now text) (now tree) i ⌝ }
-    requires { ⌜ getD (now tree) i 0 ≡ 12 ⌝ }
+    requires { ⌜ getD (now tree) i 0 ≡ nodeNo bodyKind ⌝ }
     requires { ⌜ HasState env (now input) (now vars) (now out) p ⌝ }
     ensures { λ r. ⌜ ((t : Stmt) → StmtAt (now (text .entry)) (now (tree .entry)) i t → (lv : List ℤ) (lo : List ℕ) (w : State) → Holds env (now (input .entry)) lv lo (now (vars .entry)) (now (out .entry)) p w → Ends env (now (input .entry)) lv lo (now (vars .exit)) (now (out .exit)) p (walkStmt (rowsOf (now (text .entry)) (now (table .entry)) env) (length lo) t (p .clock .left) w) r) ⌝ }
 {

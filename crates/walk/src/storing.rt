@@ -17,6 +17,7 @@ ghost use lib.ListN.{length, set, getD};
 ghost use Rattle.numbers.specs.Lent.{onto};
 ghost use Rattle.lexer.specs.Tokens.{Name};
 ghost use Rattle.tree.specs.Tree.{Stmt};
+ghost use Rattle.tree.specs.Layout.{assignKind, nodeNo};
 ghost use Rattle.symbols.specs.Symbols.{mainScope, find};
 ghost use Rattle.symbols.specs.Table.{part};
 ghost use Rattle.walk.specs.Walk.{State, placeIn, store, walkStmt};
@@ -85,7 +86,7 @@ pub fn assign(
 ) -> Outcome
     requires { ⌜ Rows (now text) (now table) env ⌝ }
     requires { ⌜ HasStmt (now text) (now tree) i ⌝ }
-    requires { ⌜ getD (now tree) i 0 ≡ 8 ⌝ }
+    requires { ⌜ getD (now tree) i 0 ≡ nodeNo assignKind ⌝ }
     requires { ⌜ env .vars ≤ length (now vars) ⌝ }
     ensures { λ r. ⌜ ((t : Stmt) → StmtAt (now (text .entry)) (now (tree .entry)) i t → (room : ℕ) (input : List ℕ) (lv : List ℤ) (lo out : List ℕ) (w : State) → Holds env input lv lo (now (vars .entry)) out p w → Ends env input lv lo (now (vars .exit)) out p (walkStmt (rowsOf (now (text .entry)) (now (table .entry)) env) room t (p .clock .left) w) r) ⌝ }
 {

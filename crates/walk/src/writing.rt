@@ -17,6 +17,7 @@ ghost use lib.ListN.{length, getD};
 ghost use Rattle.numbers.specs.Screen.{newline};
 ghost use Rattle.numbers.specs.Answers.{Puts};
 ghost use Rattle.tree.specs.Tree.{Exp, Stmt};
+ghost use Rattle.tree.specs.Layout.{writeKind, nodeNo};
 ghost use Rattle.walk.specs.Walk.{State, walkStmt};
 ghost use Rattle.walk.specs.Meets.{Known, rowsOf, ExpAt, HasExp};
 ghost use Rattle.walk.specs.Holds.{StmtAt, HasStmt, Holds, Ends, Writes, writeWalk};
@@ -94,7 +95,7 @@ pub fn writes(
 ) -> Outcome
     requires { ⌜ Known (now text) (now table) env (now vars) ⌝ }
     requires { ⌜ HasStmt (now text) (now tree) i ⌝ }
-    requires { ⌜ getD (now tree) i 0 ≡ 14 ⌝ }
+    requires { ⌜ getD (now tree) i 0 ≡ nodeNo writeKind ⌝ }
     ensures { λ r. ⌜ ((t : Stmt) → StmtAt (now (text .entry)) (now (tree .entry)) i t → (input : List ℕ) (lv : List ℤ) (lo : List ℕ) (w : State) → Holds env input lv lo (now (vars .entry)) (now (out .entry)) p w → Ends env input lv lo (now (vars .entry)) (now (out .exit)) p (walkStmt (rowsOf (now (text .entry)) (now (table .entry)) env) (length lo) t (p .clock .left) w) r) ⌝ }
 {
     let count = tree::number_at(tree, i + 2);
