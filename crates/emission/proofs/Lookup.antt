@@ -18,6 +18,7 @@ use Rattle.symbols.specs.Symbols.{Kind, const, var, procedure, Row}
 use Rattle.symbols.specs.declared.Found.{Found}
 use Rattle.symbols.specs.declared.Found.the-variants.{At as FoundAt, Nothing as NotFound}
 use Rattle.symbols.specs.Table.{kindOf, rowOf, rowAt, nameAt, symbolAt, Sound, Hit, Finds}
+use Rattle.symbols.specs.ByNumbers.{kind-const, kind-var, kind-proc}
 use Rattle.emission.specs.declared.expressions.Looked.{Looked}
 use Rattle.emission.specs.declared.expressions.Looked.the-variants.{Row as LookedRow, Nothing}
 use Rattle.emission.specs.declared.Made.{Made}
@@ -45,19 +46,7 @@ looks-row s xs k o f i y q e h = let w : Hit s xs k i o = rw q at h in found {y 
 pub address : (o : Op) (ρ : Env) (w : Row) (a n : ℕ) {xs ys : List ℕ} {r : Made} → Emits (reach o ρ w (whole a 0) n) n xs ys r → Emits (reach o ρ w a n) n xs ys r
 address o ρ w a n h = let e : a ≡ whole a 0 = omega arith in rw e h
 
--- the kinds by their numbers
-kind-const : (k : ℕ) → k ≡ 1 → kindOf k ≡ const
-unfolding kindOf
-kind-const k h = rw (eq-eqb k 1 h, kindOf)
-
-kind-var : (k : ℕ) → k ≡ 2 → kindOf k ≡ var
-unfolding kindOf
-kind-var k h = rw (ne-eqb k 1 (λ e. omega (arith, e)), eq-eqb k 2 h, kindOf)
-
-kind-proc : (k : ℕ) → (k ≡ 1 → ⊥) → (k ≡ 2 → ⊥) → kindOf k ≡ procedure
-unfolding kindOf
-kind-proc k g h = rw (ne-eqb k 1 g, ne-eqb k 2 h, kindOf)
-
+-- no variable, by the number of its kind
 not-var : (k : ℕ) (g : Piece) (n : ℕ) → (k ≡ 2 → ⊥) → ifVar (kindOf k) g n ≡ refuse wrongKind
 unfolding kindOf refusing
 not-var k g n h = either (eqb k 1) (eqb k 2) (ne-eqb k 2 h)

@@ -7,30 +7,24 @@ use native.Mathlib.Omega.{arith}
 use lib.ListN.{length, getD}
 use Rattle.numbers.specs.Limits.{maxCode}
 use Rattle.lexer.specs.Tokens.{Name}
-use Rattle.tree.specs.Tree.{Exp, Stmt, assign, call, Stmts, last, more}
+use Rattle.tree.specs.Tree.{Exp, Stmt, call, Stmts, last, more}
 use Rattle.tree.specs.Layout.{assignKind, callKind, bodyKind, readKind, writeKind, Node, Nodes, noMore, member, nodeNo, count}
 use Rattle.tree.specs.Nodes.{listNodes, nameNode, expNode, expNodes, stmtNode, stmtNodes}
 use Rattle.tree.specs.Named.{NameIn, Each, NamedExp, NamedStmt, NamedStmts}
-use Rattle.tree.specs.Reading.{word-at, branch-at, two-at}
-use Rattle.tree.specs.Heads.{Head, headNo, nodeHead, StmtIs, isAssign, isCall, isBody, isRead, isWrite, stmt-is, stmt-head}
+use Rattle.tree.specs.Reading.{word-at, branch-at}
+use Rattle.tree.specs.Heads.{nodeHead, StmtIs, isAssign, isCall, isBody, isRead, isWrite}
+use Rattle.tree.specs.Standing.{NameAt, ExpAt, StmtAt, HasStmt}
+use Rattle.tree.specs.Parts.{NameFirst, name-first, list-count, stmt-by, assign-parts, assigned}
 use Rattle.pcode.specs.Operators.{write, newLine, read}
 use Rattle.symbols.specs.Symbols.{Row, find}
 use Rattle.symbols.specs.Table.{part}
+use Rattle.symbols.specs.ByNumbers.{name-is}
 use Rattle.emission.specs.declared.Made.{Made}
 use Rattle.emission.specs.Pieces.{Piece, made, _⨾_, nothing, emitOper}
 use Rattle.emission.specs.Statements.{Env, rowFor, expCode, argsCode, writesCode, storing, readsCode, callCode, stmtCode, stmtsCode}
 use Rattle.emission.specs.Draft.{Emits}
-use Rattle.emission.specs.Meets.{ExpAt, HasExp, NameAt, StmtAt, HasStmt}
 use Rattle.emission.specs.Drafting.{so-start, seq-assoc, seq-nothing}
 use Rattle.emission.proofs.Lists.{Uncons, Family, Along, Loop}
-use Rattle.emission.specs.Names.{name-is, NameFirst, name-first, list-count}
-
--- the four numbers of a statement's node are there
-pub stmt-fits : {s tr : List ℕ} {i : ℕ} {t : Stmt} → StmtAt s tr i t → i + 4 ≤ length tr
-stmt-fits {s} {tr} {i} {t} a = stmt-head tr i t (a .stands) .fits
-
-pub stmt-by : {s tr : List ℕ} {i : ℕ} {t : Stmt} (h : Head) → getD tr i 0 ≡ headNo h → StmtAt s tr i t → StmtIs h t
-stmt-by {s} {tr} {i} {t} h k a = stmt-is h tr i t k (a .stands)
 
 -- what the name that a node starts with finds
 abbrev pub sought : List ℕ → List ℕ → ℕ → Env → Option Row
@@ -38,26 +32,12 @@ sought s tr i ρ = find (ρ .rows) (part s (getD tr (i + 6) 0) (getD tr (i + 7) 
 
 -- assignments
 module _ {s tr : List ℕ} {i : ℕ} where
-  assign-parts : (n : Name) (e : Exp) → StmtAt s tr i (assign n e) → NameFirst tr i n (member (expNode 0 e) noMore)
-  unfolding stmtNode
-  assign-parts n e a = name-first tr i assignKind n (member (expNode 0 e) noMore) (a .stands)
-
-  assigned : (n : Name) (e : Exp) → StmtAt s tr i (assign n e) → ExpAt s tr (i + 8) e
-  unfolding NamedStmt
-  assigned n e a = record { op = 0; stands = two-at tr (i + 8) (expNode 0 e) noMore (assign-parts n e a .others) .one; named = a .named .1 }
-
   pub assign-in : getD tr i 0 ≡ nodeNo assignKind → HasStmt s tr i → (getD tr (i + 6) 0 + getD tr (i + 7) 0 ≤ length s) × (i + 8 ≤ length tr)
   unfolding NamedStmt
   assign-in k h = of (stmt-by (nodeHead assignKind) k (h .at)) (h .at)
     where
       of : {t : Stmt} → StmtIs (nodeHead assignKind) t → StmtAt s tr i t → (getD tr (i + 6) 0 + getD tr (i + 7) 0 ≤ length s) × (i + 8 ≤ length tr)
       of (isAssign n e) a = let w = assign-parts n e a in (omega (arith, w .at6, w .at7, a .named .0 .fits), w .fits)
-
-  pub has-assigned : getD tr i 0 ≡ nodeNo assignKind → HasStmt s tr i → HasExp s tr (i + 8)
-  has-assigned k h = of (stmt-by (nodeHead assignKind) k (h .at)) (h .at)
-    where
-      of : {t : Stmt} → StmtIs (nodeHead assignKind) t → StmtAt s tr i t → HasExp s tr (i + 8)
-      of (isAssign n e) a = record { exp = e; at = assigned n e a }
 
   pub by-assign : (ρ : Env) {n : ℕ} {ys zs : List ℕ} {r : Made} → getD tr i 0 ≡ nodeNo assignKind → ((e : Exp) → ExpAt s tr (i + 8) e → Emits (storing ρ (expCode ρ e) (sought s tr i ρ) n) n ys zs r)
       → (t : Stmt) → StmtAt s tr i t → Emits (stmtCode ρ t n) n ys zs r

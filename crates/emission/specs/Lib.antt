@@ -4,4 +4,3 @@ pub mod Draft
 pub mod Meets
 pub mod Drafting
 pub mod Jumps
-pub mod Names

@@ -21,13 +21,14 @@ ghost use Prim.Native.Nat.{_+_, _≤_};
 ghost use lib.ListN.{length, getD};
 ghost use Rattle.tree.specs.Tree.{Exp, Cond};
 ghost use Rattle.tree.specs.Layout.{chainKind, nodeNo};
+ghost use Rattle.tree.specs.Standing.{ExpAt, HasExp, CondAt, HasCond};
 ghost use Rattle.pcode.specs.Operators.{Oper, operNo};
 ghost use Rattle.symbols.specs.Symbols.{find};
 ghost use Rattle.symbols.specs.Table.{part};
 ghost use Rattle.emission.specs.Pieces.{_⨾_, emitOper};
 ghost use Rattle.emission.specs.Statements.{used, expCode, condCode};
 ghost use Rattle.emission.specs.Draft.{Emits};
-ghost use Rattle.emission.specs.Meets.{hereOf, Known, Ready, Looks, ExpAt, HasExp, CondAt, HasCond};
+ghost use Rattle.emission.specs.Meets.{hereOf, Known, Ready, Looks};
 
 // The panel's numbers.
 pub const NAME_NOT_FOUND: u8 = 10;

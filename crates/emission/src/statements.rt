@@ -27,12 +27,13 @@ ghost use lib.ListN.{getD};
 ghost use Rattle.lexer.specs.Tokens.{Name};
 ghost use Rattle.tree.specs.Tree.{Exp, Cond, Stmt, call};
 ghost use Rattle.tree.specs.Layout.{assignKind, ifKind, whileKind, callKind, bodyKind, readKind, writeKind, nodeNo};
+ghost use Rattle.tree.specs.Standing.{NameAt, HasName, StmtAt, HasStmt, GuardAt, HasGuard};
 ghost use Rattle.pcode.specs.Operators.{read};
 ghost use Rattle.pcode.specs.Code.{JPC};
 ghost use Rattle.emission.specs.Pieces.{_⨾_, emitOper, jumpOver};
 ghost use Rattle.emission.specs.Statements.{rowFor, storing, argsCode, condCode, stmtCode};
 ghost use Rattle.emission.specs.Draft.{Emits};
-ghost use Rattle.emission.specs.Meets.{hereOf, Ready, NameAt, HasName, StmtAt, HasStmt, GuardAt, HasGuard};
+ghost use Rattle.emission.specs.Meets.{hereOf, Ready};
 
 // The panel's number.
 const WRONG_ARGUMENTS: u8 = 12;

@@ -13,6 +13,7 @@ use Rattle.tree.specs.Layout.{bodyKind, nodeNo}
 use Rattle.tree.specs.Nodes.{stmtNode}
 use Rattle.tree.specs.Named.{NamedStmt}
 use Rattle.tree.specs.Heads.{stmt-head}
+use Rattle.tree.specs.Standing.{StmtAt, HasStmt}
 use Rattle.pcode.specs.Operators.{return}
 use Rattle.pcode.specs.Code.{STA, INT}
 use Rattle.emission.specs.declared.Made.{Made}
@@ -21,7 +22,6 @@ use Rattle.emission.specs.Pieces.{Piece, _⨾_, nothing, emit, emitOper}
 use Rattle.emission.specs.Statements.{Env, stmtCode, stmtsCode}
 use Rattle.translator.specs.Translate.{stas, bodyCode}
 use Rattle.emission.specs.Draft.{Emits}
-use Rattle.emission.specs.Meets.{StmtAt, HasStmt}
 use Rattle.translator.specs.Blocks.{endCode, BodyAt, HasBody}
 use Rattle.emission.specs.Drafting.{Sofar, so-start, so-same, so-then, so-stop, so-last, so-done, stop, then, Stops}
 

@@ -12,6 +12,7 @@ use Rattle.tree.specs.Tree.{Const, Procs}
 use Rattle.tree.specs.Layout.{Node, Nodes, listKind, member}
 use Rattle.tree.specs.Nodes.{listNodes, nameNode, constsNode, namesNode, procsNode}
 use Rattle.tree.specs.Reading.{Two, two-at, next-at, branch-at, After}
+use Rattle.tree.specs.Parts.{list-count}
 use Rattle.symbols.specs.Symbols.{Scope, Row, Rows, constRows, varRows}
 use Rattle.symbols.specs.Table.{rowsIn, scopeAt, Kept}
 use Rattle.symbols.specs.Chains.{scope-kept}
@@ -25,7 +26,6 @@ use Rattle.translator.specs.Rows.{Can, Rowed, Declared, rowed, unrowed, 
 use Rattle.translator.specs.Blocks.{insideCode, refusedOf, Start, Means, through, not, ProcsAt, InsideAt, HasInside}
 use Rattle.emission.specs.Drafting.{Stops}
 use Rattle.translator.proofs.Rowing.{rowed-at, names-length}
-use Rattle.emission.specs.Names.{list-count}
 
 -- the same, from an older table
 pub means-on : {o o′ : Done} {s xs zs : List ℕ} {k w : ℕ} {ds : List ℕ} {n : ℕ} {ys es : List ℕ} {r : CodeDone} (c : ℕ) → 9 ≤ c → o′ ≡ o → k ≤ w → Kept c k xs zs → Means o s zs w ds n ys es r → Means o′ s xs k ds n ys es r

@@ -19,6 +19,7 @@ use Rattle.tree.specs.Nodes.{constsNode, namesNode, procsNode, bodyNode}
 use Rattle.tree.specs.Named.{NamedProcs}
 use Rattle.tree.specs.Reading.{Two, two-at, next-at, After}
 use Rattle.tree.specs.Heads.{nodeHead, ProcsIs, isNone, isProc, procs-is, procs-head}
+use Rattle.tree.specs.Parts.{name-first}
 use Rattle.pcode.specs.Code.{Op, JMP, Instr, ins}
 use Rattle.symbols.specs.Symbols.{Scope, Row}
 use Rattle.symbols.specs.Table.{rowsIn, scopeAt, Sound, Seen, Kept, Became, withValue}
@@ -40,7 +41,6 @@ use Rattle.translator.specs.Rows.{HeadingAt, Head, Headed, headed, unhea
 use Rattle.translator.specs.Blocks.{insideCode, endCode, refusedOf, Start, Through, Means, through, not, ProcsAt, HasProcs, InsideAt, BodyAt}
 use Rattle.emission.specs.Drafting.{Stops, wrote-at, lies-on, append-nil}
 use Rattle.emission.specs.Jumps.{One, one, jump-made}
-use Rattle.emission.specs.Names.{name-first}
 use Rattle.translator.proofs.Rowing.{head-numbers}
 use Rattle.translator.proofs.Blocks.{within, so-far, head-refused, no-place, inside-refused, end-refused, end-made}
 use Rattle.translator.proofs.Insides.{rest-at, procs-at, procs-fit}

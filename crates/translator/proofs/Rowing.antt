@@ -18,6 +18,8 @@ use Rattle.tree.specs.Layout.{Node, constantKind, listKind, procedureKind, half
 use Rattle.tree.specs.Nodes.{listNodes, nameNode, constNode, namesNode}
 use Rattle.tree.specs.Named.{NameIn, Each, NamedConst}
 use Rattle.tree.specs.Reading.{After, word-at, literal-at, branch-at, two-at}
+use Rattle.tree.specs.Standing.{NameAt, HasName}
+use Rattle.tree.specs.Parts.{name-first, list-count}
 use Rattle.symbols.specs.declared.Added.{Added}
 use Rattle.symbols.specs.declared.Added.the-variants.{Used, Refused as NotAdded}
 use Rattle.symbols.specs.declared.Symbol.{Symbol}
@@ -25,13 +27,12 @@ use Rattle.symbols.specs.Symbols.{procedure, Row, Rows, rows, refuseRows, Scope
 use Rattle.symbols.specs.Table.{part, kindOf, rowsIn, scopeAt, rowOf, Named, Sound, Scoped, Kept, Grown, Adds, Declares}
 use Rattle.symbols.specs.Chains.{scope-kept}
 use Rattle.symbols.specs.Kept.{rows-length, scoped-kept, scoped-new, kept-on, letter-named}
+use Rattle.symbols.specs.ByNumbers.{name-is}
 use Rattle.emission.specs.declared.Made.{Made}
 use Rattle.emission.specs.declared.Made.the-variants.{At, Refused}
 use Rattle.translator.specs.declared.declarations.Frame.{Frame}
-use Rattle.emission.specs.Meets.{NameAt, HasName}
 use Rattle.translator.specs.Rows.{madeOf, Can, Rowed, Declared, rowed, unrowed, addName, nameRows, variableOf, ConstAt, ListAt, HeadingAt, headRows, Headed, headed, unheaded}
 use Rattle.emission.specs.Drafting.{Stops}
-use Rattle.emission.specs.Names.{name-is, name-first, list-count}
 
 letters : (w : List ℕ) → isLetter (getD w 0 0) ≡ true → 1 ≤ length w
 unfolding isLetter

@@ -11,10 +11,10 @@ ghost use Rattle.lexer.specs.Tokens.{Name};
 ghost use Prim.Native.Nat.{_+_, _≤_};
 ghost use lib.ListN.{length};
 ghost use Rattle.tree.specs.Tree.{Const};
+ghost use Rattle.tree.specs.Standing.{NameAt, HasName};
 ghost use Rattle.symbols.specs.Symbols.{fresh, constRow, varRow, constRows};
 ghost use Rattle.symbols.specs.Table.{scopeAt, rowsIn};
 ghost use Rattle.translator.specs.Rows.{madeOf, Can, Declared, addName, nameRows, ConstAt, HasConst, ConstsAt, HasConsts, NamesAt, HasNames, HeadingAt, HasHeading, Headed, variableOf};
-ghost use Rattle.emission.specs.Meets.{NameAt, HasName};
 
 // Where declarations go: the scope, the level and the first address.
 pub struct Frame {

@@ -2,6 +2,8 @@ pub mod Tree
 pub mod Layout
 pub mod Nodes
 pub mod Named
+pub mod Standing
 pub mod Reading
 pub mod Writing
 pub mod Heads
+pub mod Parts

@@ -11,13 +11,14 @@ use Rattle.tree.specs.Nodes.{listNodes, stmtNode, stmtNodes}
 use Rattle.tree.specs.Named.{Each, NamedStmt, NamedStmts}
 use Rattle.tree.specs.Reading.{branch-at}
 use Rattle.tree.specs.Heads.{nodeHead, StmtIs, isBody, stmtNo, stmt-is, stmt-head}
+use Rattle.tree.specs.Standing.{StmtAt, HasStmt}
 use Rattle.symbols.specs.Symbols.{Row}
 use Rattle.walk.specs.declared.expressions.Env.{Env}
 use Rattle.walk.specs.declared.progress.Progress.{Progress}
 use Rattle.walk.specs.declared.progress.Outcome.{Outcome}
 use Rattle.walk.specs.declared.progress.Outcome.the-variants.{Done}
 use Rattle.walk.specs.Walk.{State, Result, ok, stop, Walk, then, pure, walkStmt, walkStmts}
-use Rattle.walk.specs.Holds.{StmtAt, HasStmt, Holds, Ends, done}
+use Rattle.walk.specs.Holds.{Holds, Ends, done}
 use Rattle.walk.proofs.Ends.{ends-as}
 use Rattle.walk.proofs.Members.{Family, Along, along-start}
 

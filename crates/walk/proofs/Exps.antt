@@ -7,21 +7,23 @@ use lib.IntN.{ℤ, pos}
 use lib.ListN.{length, getD}
 use Rattle.numbers.specs.Arithmetic.{Arith, arith, Compare, Val, oddness}
 use Rattle.tree.specs.Tree.{Exp, chain, brackets, Chain, end, link, Cond, isOdd, rel}
-use Rattle.tree.specs.Layout.{negKind, chainKind, bracketsKind, oddKind, literal, noMore, member, nameNo, numberNo, nodeNo, count, enc, encs, Stands}
-use Rattle.tree.specs.Nodes.{expNode, chainNodes, condNode, arithNo, compareNo}
-use Rattle.tree.specs.Named.{NamedExp, NamedChain, NamedCond}
+use Rattle.tree.specs.Layout.{negKind, chainKind, bracketsKind, oddKind, literal, member, nameNo, numberNo, nodeNo, count, enc, encs, Stands}
+use Rattle.tree.specs.Nodes.{expNode, chainNodes, arithNo, compareNo}
+use Rattle.tree.specs.Named.{NamedExp, NamedChain}
 use Rattle.tree.specs.Reading.{word-at, branch-at, first-at, two-at, After}
 use Rattle.tree.specs.Heads.{nameHead, numberHead, nodeHead, ExpIs, isLit, isRef, isNeg, isChain, isBrackets, exp-head, cond-head}
+use Rattle.tree.specs.Standing.{ExpAt, CondAt}
+use Rattle.tree.specs.Parts.{exp-by, at-neg, at-brackets, at-first, at-odd, at-left, at-right}
 use Rattle.symbols.specs.Symbols.{mainScope, Row, find}
 use Rattle.symbols.specs.Table.{part}
+use Rattle.symbols.specs.ByNumbers.{name-is}
 use Rattle.walk.specs.declared.expressions.Env.{Env}
 use Rattle.walk.specs.declared.expressions.Clock.{Clock}
 use Rattle.walk.specs.declared.expressions.Valued.{Valued}
 use Rattle.walk.specs.declared.expressions.Valued.the-variants.{Value, Stopped}
 use Rattle.walk.specs.Walk.{State, Result, ok, stop, Walk, then, atTop, push, result, onOne, onTwo, valueIn, walkExp, walkChain, walkCond}
-use Rattle.walk.specs.Meets.{Went, Gives, gives, halts, Cells, Shows, negWalk, linkWalk, relWalk, ExpAt, HasExp, CondAt}
+use Rattle.walk.specs.Meets.{Went, Gives, gives, halts, Cells, Shows, negWalk, linkWalk, relWalk}
 use Rattle.walk.proofs.Steps.{at-top}
-use Rattle.walk.proofs.Parts.{name-is, exp-by, at-left, at-right}
 
 -- one after the other
 pub then-assoc : {A B C : Type 0} (r : Result A) (f : A → Walk B) (g : B → Walk C) → then (λ a b w. then g (f a b w)) r ≡ then g (then f r)
@@ -85,19 +87,19 @@ module _ (rs : List Row) {s tr : List ℕ} {i : ℕ} {vars : List ℤ} {e : Env}
 
   pub exp-neg : getD tr i 0 ≡ nodeNo negKind → ((t : Exp) → ExpAt s tr (i + 4) t → (w : State) → Shows vars e c w → Gives (c .top + 1) c w (negWalk rs t (c .left) w) r)
       → (t : Exp) → ExpAt s tr i t → (w : State) → Shows vars e c w → Gives (c .top + 1) c w (walkExp rs t (c .left) w) r
-  unfolding expNode NamedExp walkExp
+  unfolding walkExp
   exp-neg k h t a w sh = of (exp-by (nodeHead negKind) k a) a
     where
       of : {u : Exp} → ExpIs (nodeHead negKind) u → ExpAt s tr i u → Gives (c .top + 1) c w (walkExp rs u (c .left) w) r
-      of (isNeg x) b = h x (record { op = 0; stands = first-at tr i negKind (b .op) (expNode 0 x) noMore (b .stands) .one; named = b .named }) w sh
+      of (isNeg x) b = h x (at-neg x b) w sh
 
   pub exp-brackets : ((t : Exp) → ExpAt s tr i t → ExpIs (nodeHead bracketsKind) t) → ((t : Exp) → ExpAt s tr (i + 4) t → (w : State) → Shows vars e c w → Gives (c .top + 1) c w (walkExp rs t (c .left) w) r)
       → (t : Exp) → ExpAt s tr i t → (w : State) → Shows vars e c w → Gives (c .top + 1) c w (walkExp rs t (c .left) w) r
-  unfolding expNode NamedExp walkExp
+  unfolding walkExp
   exp-brackets k h t a w sh = of (k t a) a
     where
       of : {u : Exp} → ExpIs (nodeHead bracketsKind) u → ExpAt s tr i u → Gives (c .top + 1) c w (walkExp rs u (c .left) w) r
-      of (isBrackets x) b = h x (record { op = 0; stands = first-at tr i bracketsKind (b .op) (expNode 0 x) noMore (b .stands) .one; named = b .named }) w sh
+      of (isBrackets x) b = h x (at-brackets x b) w sh
 
 -- an operator after a value: the value z of o is on top, and the operator's answer is v
 module _ {n : ℕ} {c : Clock} {w : State} {o : Result ℤ} {z : ℤ} {d : Clock} {r q : Valued} (e : r ≡ Value z d) (h : Gives n c w o r) where
@@ -152,16 +154,12 @@ module _ (rs : List Row) (s tr : List ℕ) (vars : List ℤ) (e : Env) (i : ℕ)
   Links x₀ d₀ r = (y : Exp) (l : Chain) → ExpAt s tr i (chain y l) → (w : State) → Shows vars e d₀ w → Gives (d₀ .top) d₀ w (walkChain rs l x₀ (d₀ .left) w) r
 
   module _ (c : Clock) (k : getD tr i 0 ≡ nodeNo chainKind) {r : Valued} (h : (t : Exp) → ExpAt s tr (i + 4) t → (w : State) → Shows vars e c w → Gives (c .top + 1) c w (walkExp rs t (c .left) w) r) where
-    first-in : {y : Exp} {l : Chain} → ExpAt s tr i (chain y l) → ExpAt s tr (i + 4) y
-    unfolding expNode NamedExp chainNodes
-    first-in {y} {l} b = record { op = 0; stands = first-at tr i chainKind (b .op) (expNode 0 y) (chainNodes l) (b .stands) .one; named = b .named .0 }
-
     pub chain-stop : {m : ℕ} {d : Clock} → r ≡ Stopped m d → (t : Exp) → ExpAt s tr i t → (w : State) → Shows vars e c w → Gives (c .top + 1) c w (walkExp rs t (c .left) w) r
     unfolding walkExp
     chain-stop {m} {d} q t a w sh = of (exp-by (nodeHead chainKind) k a) a
       where
         of : {u : Exp} → ExpIs (nodeHead chainKind) u → ExpAt s tr i u → Gives (c .top + 1) c w (walkExp rs u (c .left) w) r
-        of (isChain x l) b = gives-stop q (h x (first-in b) w sh) (λ y. walkChain rs l y)
+        of (isChain x l) b = gives-stop q (h x (at-first x l b) w sh) (λ y. walkChain rs l y)
 
     pub chain-whole : {z y : ℤ} {d : Clock} {q : Valued} → r ≡ Value z d → y ≡ z → Links y d q → (t : Exp) → ExpAt s tr i t → (w : State) → Shows vars e c w → Gives (c .top + 1) c w (walkExp rs t (c .left) w) q
     unfolding walkExp
@@ -169,7 +167,7 @@ module _ (rs : List Row) (s tr : List ℕ) (vars : List ℤ) (e : Env) (i : ℕ)
       where
         of : {u : Exp} → ExpIs (nodeHead chainKind) u → ExpAt s tr i u → Gives (c .top + 1) c w (walkExp rs u (c .left) w) q
         of (isChain x l) b =
-            let f = h x (first-in b) w sh in
+            let f = h x (at-first x l b) w sh in
             gives-top (went g f .top) (gives-then g f (λ o. walkChain rs l o)
             (gives-as (ap (λ (o : ℤ). walkChain rs l o (d .left) (atTop (d .top) w)) (sym v)) (n x l b (atTop (d .top) w) (record { top = refl; cells = sh .cells }))))
 
@@ -234,15 +232,7 @@ module _ (rs : List Row) (s tr : List ℕ) (vars : List ℤ) (e : Env) (i : ℕ)
                   is = λ w sh. p w sh ∙ chain-next o t u (d .left) (atTop (d .top) w) ∙ ap (then (λ z. walkChain rs u z)) (went q (linked-in o t u st (nm .0) w sh) .is) ∙ ap (λ (n : ℤ). walkChain rs u n (g .left) (atTop (g .top) w)) (sym v);
                 }
 
--- the first expression of a condition
-at-odd : {s tr : List ℕ} {i : ℕ} (x : Exp) → CondAt s tr i (isOdd x) → ExpAt s tr (i + 4) x
-unfolding condNode NamedCond
-at-odd {s} {tr} {i} x a = record { op = 0; stands = first-at tr i oddKind 0 (expNode 0 x) noMore (a .stands) .one; named = a .named }
-
-pub cond-first : {s tr : List ℕ} {i : ℕ} (t : Cond) → CondAt s tr i t → HasExp s tr (i + 4)
-cond-first (isOdd x) a = record { exp = x; at = at-odd x a }
-cond-first (rel o x y) a = record { exp = x; at = at-left o x y a }
-
+-- what a condition gives
 module _ (rs : List Row) (s tr : List ℕ) (vars : List ℤ) (e : Env) (i : ℕ) (c : Clock) {r : Valued} (h : (t : Exp) → ExpAt s tr (i + 4) t → (w : State) → Shows vars e c w → Gives (c .top + 1) c w (walkExp rs t (c .left) w) r) where
   pub cond-stop : {m : ℕ} {d : Clock} → r ≡ Stopped m d → (t : Cond) → CondAt s tr i t → (w : State) → Shows vars e c w → Gives (c .top + 1) c w (walkCond rs t (c .left) w) r
   unfolding walkCond

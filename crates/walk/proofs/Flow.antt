@@ -1,18 +1,19 @@
 -- Laws of `if` and `while`: their parts in the tree, and how their answers give the answer of the whole.
 use mathlib.Core.Path.{_≡_, refl, sym, ap, _∙_}
 use mathlib.Core.Bool.{false}
-use mathlib.Core.List.{List, []}
+use mathlib.Core.List.{List}
+use mathlib.Core.Option.{Option, none, some}
 use Prim.Native.Nat.{ℕ, zero, suc, _+_, _≤_, _<_}
 use native.Mathlib.Omega.{arith}
 use lib.IntN.{ℤ, pos}
 use lib.ListN.{length, getD}
 use Rattle.numbers.specs.Arithmetic.{eqZ}
-use Rattle.tree.specs.Tree.{Cond, Stmt, ifThen, ifElse, while}
-use Rattle.tree.specs.Layout.{NodeKind, ifKind, whileKind, Nodes, branch, noMore, member, nodeNo, count, enc, Stands}
-use Rattle.tree.specs.Nodes.{condNode, stmtNode}
-use Rattle.tree.specs.Named.{NamedCond, NamedStmt}
-use Rattle.tree.specs.Reading.{Two, branch-at, first-at, next-at, After}
-use Rattle.tree.specs.Heads.{nodeHead, StmtIs, isThen, isElse, isWhile, stmt-is}
+use Rattle.tree.specs.Tree.{Cond, Stmt, while}
+use Rattle.tree.specs.Layout.{ifKind, whileKind, nodeNo}
+use Rattle.tree.specs.Reading.{After}
+use Rattle.tree.specs.Heads.{nodeHead, StmtIs, isWhile, stmt-is}
+use Rattle.tree.specs.Standing.{CondAt, HasCond, StmtAt, HasStmt, Further}
+use Rattle.tree.specs.Parts.{guard-cond, guard-stmt, guard-further, while-guard, ifOf, IfAt, if-at}
 use Rattle.symbols.specs.Symbols.{Row}
 use Rattle.walk.specs.declared.expressions.Env.{Env}
 use Rattle.walk.specs.declared.progress.Progress.{Progress}
@@ -21,44 +22,12 @@ use Rattle.walk.specs.declared.progress.Outcome.the-variants.{Done, Refu
 use Rattle.walk.specs.declared.statements.Tested.{Tested}
 use Rattle.walk.specs.declared.statements.Tested.the-variants.{Passed, Failed, Stopped}
 use Rattle.walk.specs.Walk.{State, Walk, then, _>>_, pure, whether, tick, tested, atTop, loop, walkCond, walkStmt}
-use Rattle.walk.specs.Meets.{CondAt, HasCond}
-use Rattle.walk.specs.Holds.{StmtAt, HasStmt, Holds, HasState, Ends, done, Steps}
+use Rattle.walk.specs.Holds.{Holds, HasState, Ends, done, Steps}
 use Rattle.walk.specs.Tests.{testWalk, partWalk, Tests}
 use Rattle.walk.proofs.Steps.{at-top}
 use Rattle.walk.proofs.Exps.{then-assoc}
 use Rattle.walk.proofs.Ends.{ends-as, ends-from, ends-halt, ends-then, ends-less}
 use Rattle.walk.proofs.Testing.{tested-then, Led, leads, tests-stop, tests-passed, on-passed, on-failed}
-
--- a statement further on
-pub record Further (s tr : List ℕ) (i j : ℕ) : Type 0 where
-  pub has : HasStmt s tr j
-  pub beyond : i + 8 ≤ j
-  pub fits : j + 4 ≤ length tr
-
--- an `if` or a `while` stands there: its condition, its first statement, and what else it may have
-record GuardAt (s tr : List ℕ) (i : ℕ) (c : Cond) (t : Stmt) : Type 0 where
-  kind : NodeKind
-  others : Nodes
-  stands : Stands tr i (enc (branch kind 0 (member (condNode c) (member (stmtNode t) others))))
-  cond-named : NamedCond s c
-  stmt-named : NamedStmt s t
-
-module _ {s tr : List ℕ} {i : ℕ} {c : Cond} {t : Stmt} (a : GuardAt s tr i c t) where
-  guard-first : Two tr (i + 4) (condNode c) (member (stmtNode t) (a .others))
-  guard-first = first-at tr i (a .kind) 0 (condNode c) (member (stmtNode t) (a .others)) (a .stands)
-
-  guard-cond : CondAt s tr (i + 4) c
-  guard-cond = record { stands = guard-first .one; named = a .cond-named }
-
-  module _ {j : ℕ} (f : After tr (i + 4) j) where
-    guard-next : Two tr j (stmtNode t) (a .others)
-    guard-next = next-at tr (i + 4) j (condNode c) (stmtNode t) (a .others) f guard-first
-
-    guard-stmt : StmtAt s tr j t
-    guard-stmt = record { stands = guard-next .one; named = a .stmt-named }
-
-    guard-inner : Further s tr i j
-    guard-inner = record { has = record { stmt = t; at = guard-stmt }; beyond = omega (arith, f (condNode c) (guard-first .one), guard-first .least); fits = omega (arith, guard-next .fits, guard-next .least) }
 
 -- the step after a part
 module _ (rs : List Row) (s tr : List ℕ) (i : ℕ) {e : Env} {input : List ℕ} {vars vars′ : List ℤ} {out out′ : List ℕ} {p : Progress} {r : Outcome}
@@ -70,65 +39,29 @@ module _ (rs : List Row) (s tr : List ℕ) (i : ℕ) {e : Env} {input : List ℕ
       → (t : Stmt) → StmtAt s tr i t → (lv : List ℤ) (lo : List ℕ) (w : State) → Holds e input lv lo vars out p w → Ends e input lv lo vars′ out′ p (partWalk rs (length lo) t (p .clock .left) w) u
   part-tick {q} {u} y f t a lv lo w h = ends-then y (x t a lv lo w h) (λ c. tick) (λ v held. rw (at-top v (q .clock .top) (held .top)) at (f e input lv lo vars′ out′ v held))
 
--- an `if`, with or without an `else`
-record IfAt (rs : List Row) (s tr : List ℕ) (i : ℕ) (t : Stmt) : Type 0 where
-  cond : Cond
-  stmt : Stmt
-  guard : GuardAt s tr i cond stmt
-  els : ℕ → Walk (Unit {0})
-  is : (room b : ℕ) (w : State) → walkStmt rs room t b w ≡ then (λ z. whether (eqZ z (pos 0)) (els room) (partWalk rs room stmt)) (testWalk rs cond b w)
-  short : getD tr (i + 2) 0 < 3 → (room : ℕ) → els room ≡ pure tt
-  long : 3 ≤ getD tr (i + 2) 0 → (j j₂ : ℕ) → After tr (i + 4) j → After tr j j₂ → (e : Stmt) × ((room : ℕ) → els room ≡ walkStmt rs room e) × StmtAt s tr j₂ e × (i + 8 ≤ j₂) × (j₂ + 4 ≤ length tr)
+-- an `if`: what is walked for its `else`, if it has one
+abbrev elseWalk : List Row → ℕ → Option Stmt → Walk (Unit {0})
+elseWalk rs room none = pure tt
+elseWalk rs room (some e) = walkStmt rs room e
 
-module _ (rs : List Row) {s tr : List ℕ} {i : ℕ} where
-  if-then : (c : Cond) (t : Stmt) → StmtAt s tr i (ifThen c t) → IfAt rs s tr i (ifThen c t)
-  unfolding stmtNode NamedStmt walkStmt count
-  if-then c t x = record {
-    cond = c;
-    stmt = t;
-    guard = record { kind = ifKind; others = noMore; stands = x .stands; cond-named = x .named .0; stmt-named = x .named .1 };
-    els = λ room. pure tt;
-    is = λ room b w. tested-then (walkCond rs c b w) (λ z. whether (eqZ z (pos 0)) (pure tt) (partWalk rs room t));
-    short = λ h room. refl;
-    long = λ h j j₂ f g. absurd (omega (arith, h, branch-at tr i ifKind 0 (member (condNode c) (member (stmtNode t) noMore)) (x .stands) .at2));
-  }
+if-walk : (rs : List Row) (room : ℕ) (c : Cond) (t : Stmt) (o : Option Stmt) (b : ℕ) (w : State) → walkStmt rs room (ifOf c t o) b w ≡ then (λ z. whether (eqZ z (pos 0)) (elseWalk rs room o) (partWalk rs room t)) (testWalk rs c b w)
+unfolding walkStmt
+if-walk rs room c t none b w = tested-then (walkCond rs c b w) (λ z. whether (eqZ z (pos 0)) (pure tt) (partWalk rs room t))
+if-walk rs room c t (some e) b w = tested-then (walkCond rs c b w) (λ z. whether (eqZ z (pos 0)) (walkStmt rs room e) (partWalk rs room t))
 
-  if-else : (c : Cond) (t e : Stmt) → StmtAt s tr i (ifElse c t e) → IfAt rs s tr i (ifElse c t e)
-  unfolding stmtNode NamedStmt walkStmt count
-  if-else c t e x =
-      let a : GuardAt s tr i c t = record { kind = ifKind; others = member (stmtNode e) noMore; stands = x .stands; cond-named = x .named .0; stmt-named = x .named .1 .0 } in
-      record {
-        cond = c;
-        stmt = t;
-        guard = a;
-        els = λ room. walkStmt rs room e;
-        is = λ room b w. tested-then (walkCond rs c b w) (λ z. whether (eqZ z (pos 0)) (walkStmt rs room e) (partWalk rs room t));
-        short = λ h. absurd (omega (arith, h, branch-at tr i ifKind 0 (member (condNode c) (member (stmtNode t) (member (stmtNode e) noMore))) (x .stands) .at2));
-        long = λ h j j₂ f g.
-            let w = next-at tr j j₂ (stmtNode t) (stmtNode e) noMore g (guard-next a f) in
-            (e, (λ room. refl), record { stands = w .one; named = x .named .1 .1 }, omega (arith, guard-inner a f .beyond, g (stmtNode t) (guard-next a f .one)), omega (arith, w .fits, w .least));
-      }
-
-  if-at : getD tr i 0 ≡ nodeNo ifKind → (t : Stmt) → StmtAt s tr i t → IfAt rs s tr i t
-  if-at k t x = of (stmt-is (nodeHead ifKind) tr i t k (x .stands)) x
-    where
-      of : {u : Stmt} → StmtIs (nodeHead ifKind) u → StmtAt s tr i u → IfAt rs s tr i u
-      of (isThen c u) y = if-then c u y
-      of (isElse c u e) y = if-else c u e y
+walk-is : (rs : List Row) {s tr : List ℕ} {i : ℕ} (t : Stmt) (v : IfAt s tr i t) (room b : ℕ) (w : State) → walkStmt rs room t b w ≡ then (λ z. whether (eqZ z (pos 0)) (elseWalk rs room (v .other)) (partWalk rs room (v .stmt))) (testWalk rs (v .cond) b w)
+walk-is rs t v room b w = ap (λ (u : Stmt). walkStmt rs room u b w) (v .is) ∙ if-walk rs room (v .cond) (v .stmt) (v .other) b w
 
 -- what stands there
 module _ {s tr : List ℕ} {i : ℕ} (k : getD tr i 0 ≡ nodeNo ifKind) (h : HasStmt s tr i) where
-  found : IfAt [] s tr i (h .stmt)
-  found = if-at [] k (h .stmt) (h .at)
+  found : IfAt s tr i (h .stmt)
+  found = if-at k (h .stmt) (h .at)
 
   pub if-cond : HasCond s tr (i + 4)
   if-cond = record { cond = found .cond; at = guard-cond (found .guard) }
 
   pub if-inner : {j : ℕ} → After tr (i + 4) j → Further s tr i j
-  if-inner f = guard-inner (found .guard) f
-
-  pub if-other : {j j₂ : ℕ} → 3 ≤ getD tr (i + 2) 0 → After tr (i + 4) j → After tr j j₂ → Further s tr i j₂
-  if-other {j} {j₂} l f g = let v = found .long l j j₂ f g in record { has = record { stmt = v .0; at = v .2 }; beyond = v .3; fits = v .4 }
+  if-inner f = guard-further (found .guard) f
 
 -- how an `if` ends
 module _ (rs : List Row) (s tr : List ℕ) (i : ℕ) (e : Env) (input : List ℕ) (vars : List ℤ) (out : List ℕ) (p : Progress) {r : Tested} (k : getD tr i 0 ≡ nodeNo ifKind)
@@ -138,35 +71,31 @@ module _ (rs : List Row) (s tr : List ℕ) (i : ℕ) (e : Env) (input : List ℕ
 
   pub if-stop : {m : ℕ} {q : Progress} → r ≡ Stopped m q → Meet vars out (Refused m q)
   if-stop y t a lv lo w h =
-      let v = if-at rs k t a in
-      ends-as (sym (v .is (length lo) (p .clock .left) w)) (tests-stop (x (v .cond) (guard-cond (v .guard)) input lv lo out w h) y (λ z. whether (eqZ z (pos 0)) (v .els (length lo)) (partWalk rs (length lo) (v .stmt))))
+      let v = if-at k t a in
+      ends-as (sym (walk-is rs t v (length lo) (p .clock .left) w)) (tests-stop (x (v .cond) (guard-cond (v .guard)) input lv lo out w h) y (λ z. whether (eqZ z (pos 0)) (elseWalk rs (length lo) (v .other)) (partWalk rs (length lo) (v .stmt))))
 
   pub if-passed : {q : Progress} {j : ℕ} {vars′ : List ℤ} {out′ : List ℕ} {u : Outcome} → r ≡ Passed q → After tr (i + 4) j
       → ((t : Stmt) → StmtAt s tr j t → (lv : List ℤ) (lo : List ℕ) (w : State) → Holds e input lv lo vars out q w → Ends e input lv lo vars′ out′ q (partWalk rs (length lo) t (q .clock .left) w) u) → Meet vars′ out′ u
   if-passed y f g t a lv lo w h =
-      let v = if-at rs k t a in
-      ends-as (sym (v .is (length lo) (p .clock .left) w)) (on-passed (x (v .cond) (guard-cond (v .guard)) input lv lo out w h) (v .els (length lo)) (partWalk rs (length lo) (v .stmt)) y (λ u held. g (v .stmt) (guard-stmt (v .guard) f) lv lo u held))
+      let v = if-at k t a in
+      ends-as (sym (walk-is rs t v (length lo) (p .clock .left) w)) (on-passed (x (v .cond) (guard-cond (v .guard)) input lv lo out w h) (elseWalk rs (length lo) (v .other)) (partWalk rs (length lo) (v .stmt)) y (λ u held. g (v .stmt) (guard-stmt (v .guard) f) lv lo u held))
 
   pub if-short : {q : Progress} → r ≡ Failed q → getD tr (i + 2) 0 < 3 → Meet vars out (Done q)
   if-short {q} y l t a lv lo w h =
-      let v = if-at rs k t a in
-      ends-as (sym (v .is (length lo) (p .clock .left) w)) (on-failed (x (v .cond) (guard-cond (v .guard)) input lv lo out w h) (v .els (length lo)) (partWalk rs (length lo) (v .stmt)) y
-      (λ u held. ends-as (ap (λ (f : Walk (Unit {0})). f (q .clock .left) u) (sym (v .short l (length lo)))) (done {q = q} u refl held (omega arith))))
+      let v = if-at k t a in
+      ends-as (sym (walk-is rs t v (length lo) (p .clock .left) w)) (on-failed (x (v .cond) (guard-cond (v .guard)) input lv lo out w h) (elseWalk rs (length lo) (v .other)) (partWalk rs (length lo) (v .stmt)) y
+      (λ u held. ends-as (ap (λ (x : Option Stmt). elseWalk rs (length lo) x (q .clock .left) u) (sym (v .short l))) (done {q = q} u refl held (omega arith))))
 
   pub if-failed : {q : Progress} {j j₂ : ℕ} {vars′ : List ℤ} {out′ : List ℕ} {u : Outcome} → r ≡ Failed q → 3 ≤ getD tr (i + 2) 0 → After tr (i + 4) j → After tr j j₂
       → ((t : Stmt) → StmtAt s tr j₂ t → (lv : List ℤ) (lo : List ℕ) (w : State) → Holds e input lv lo vars out q w → Ends e input lv lo vars′ out′ q (walkStmt rs (length lo) t (q .clock .left) w) u) → Meet vars′ out′ u
   if-failed {q} {j} {j₂} y l f f₂ g t a lv lo w h =
-      let v = if-at rs k t a in
+      let v = if-at k t a in
       let o = v .long l j j₂ f f₂ in
-      ends-as (sym (v .is (length lo) (p .clock .left) w)) (on-failed (x (v .cond) (guard-cond (v .guard)) input lv lo out w h) (v .els (length lo)) (partWalk rs (length lo) (v .stmt)) y
-      (λ u held. ends-as (ap (λ (f : Walk (Unit {0})). f (q .clock .left) u) (sym (o .1 (length lo)))) (g (o .0) (o .2) lv lo u held)))
+      ends-as (sym (walk-is rs t v (length lo) (p .clock .left) w)) (on-failed (x (v .cond) (guard-cond (v .guard)) input lv lo out w h) (elseWalk rs (length lo) (v .other)) (partWalk rs (length lo) (v .stmt)) y
+      (λ u held. ends-as (ap (λ (x : Option Stmt). elseWalk rs (length lo) x (q .clock .left) u) (sym (o .1))) (g (o .0) (o .2) lv lo u held)))
 
 -- the parts of a `while`
 module _ {s tr : List ℕ} {i : ℕ} where
-  while-guard : {c : Cond} {t : Stmt} → StmtAt s tr i (while c t) → GuardAt s tr i c t
-  unfolding stmtNode NamedStmt
-  while-guard x = record { kind = whileKind; others = noMore; stands = x .stands; cond-named = x .named .0; stmt-named = x .named .1 }
-
   the-while : getD tr i 0 ≡ nodeNo whileKind → HasStmt s tr i → (c : Cond) × (t : Stmt) × StmtAt s tr i (while c t)
   the-while k h = of (stmt-is (nodeHead whileKind) tr i (h .stmt) k (h .at .stands)) (h .at)
     where
@@ -177,7 +106,7 @@ module _ {s tr : List ℕ} {i : ℕ} where
   while-cond k h = let w = the-while k h in record { cond = w .0; at = guard-cond (while-guard (w .2)) }
 
   pub while-inner : {j : ℕ} → getD tr i 0 ≡ nodeNo whileKind → HasStmt s tr i → After tr (i + 4) j → Further s tr i j
-  while-inner k h f = let w = the-while k h in guard-inner (while-guard (w .2)) f
+  while-inner k h f = let w = the-while k h in guard-further (while-guard (w .2)) f
 
 -- where the laps stand for one state at their start
 pub record Lap (rs : List Row) (c : Cond) (t : Stmt) (e : Env) (input : List ℕ) (lv : List ℤ) (lo : List ℕ) (p : Progress) (w : State) (vars : List ℤ) (out : List ℕ) (q : Progress) : Type 0 where

@@ -1,7 +1,6 @@
 pub mod Steps
 pub mod Operators
 pub mod Cells
-pub mod Parts
 pub mod Lookup
 pub mod Exps
 pub mod Ends

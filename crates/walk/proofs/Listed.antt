@@ -12,14 +12,15 @@ use Rattle.tree.specs.Layout.{readKind, writeKind, nodeNo}
 use Rattle.tree.specs.Nodes.{listNodes, nameNode, expNode, expNodes, stmtNode}
 use Rattle.tree.specs.Named.{NameIn, NamedExp, NamedStmt}
 use Rattle.tree.specs.Reading.{branch-at}
-use Rattle.tree.specs.Heads.{nodeHead, StmtIs, isRead, isWrite, stmt-is, stmt-head}
+use Rattle.tree.specs.Heads.{nodeHead, StmtIs, isRead, isWrite, stmt-is}
+use Rattle.tree.specs.Standing.{StmtAt, HasStmt}
 use Rattle.symbols.specs.Symbols.{Row}
 use Rattle.walk.specs.declared.expressions.Env.{Env}
 use Rattle.walk.specs.declared.progress.Progress.{Progress}
 use Rattle.walk.specs.declared.progress.Outcome.{Outcome}
 use Rattle.walk.specs.declared.progress.Outcome.the-variants.{Done}
 use Rattle.walk.specs.Walk.{State, then, putNumber, walkExp, walkReads, walkWrites, walkStmt}
-use Rattle.walk.specs.Holds.{StmtAt, HasStmt, Holds, HasState, Ends, done, readWalk, writeWalk, Writes}
+use Rattle.walk.specs.Holds.{Holds, HasState, Ends, done, readWalk, writeWalk, Writes}
 use Rattle.walk.proofs.Exps.{then-assoc}
 use Rattle.walk.proofs.Members.{Family, Along, along-start}
 
@@ -29,10 +30,6 @@ held-room h =
     let s = h .holds in
     let w = h .state in
     omega (arith, ap length (s .vars-are), length-append (w .vars) (drop (length (w .vars)) (h .lv)), s .many)
-
--- a statement's four numbers
-pub stmt-fits : {s tr : List ℕ} {i : ℕ} → HasStmt s tr i → i + 4 ≤ length tr
-stmt-fits {s} {tr} {i} h = stmt-head tr i (h .stmt) (h .at .stands) .fits
 
 -- the names of a `read`
 pub reads-more : (rs : List Row) (room : ℕ) (n : Name) (l : List Name) (b : ℕ) (w : State) → walkReads rs room (n ∷ l) b w ≡ then (λ u. walkReads rs room l) (readWalk rs room n b w)

@@ -6,29 +6,16 @@ use Prim.Native.Nat.{ℕ, _+_, _-_, _*_, _≤_, _<_}
 use native.Mathlib.Omega.{arith}
 use lib.IntN.{ℤ, pos}
 use lib.ListN.{length, getD}
-use borrow.Author.Tests.{eq-eqb, ne-eqb}
 use Rattle.numbers.specs.Limits.{greatest}
 use Rattle.numbers.specs.Stack.{links}
 use Rattle.symbols.specs.declared.Found.{Found}
 use Rattle.symbols.specs.declared.Found.the-variants.{At, Nothing}
 use Rattle.symbols.specs.declared.Symbol.{Symbol}
-use Rattle.symbols.specs.Symbols.{Kind, const, var, procedure, mainScope, Row, find}
+use Rattle.symbols.specs.Symbols.{Kind, mainScope, Row, find}
 use Rattle.symbols.specs.Table.{field, scopeAt, kindOf, valueOf, rowAt, rowsIn, symbolAt, Sound, Hit, Finds}
 use Rattle.symbols.specs.Chains.{scope-main}
+use Rattle.symbols.specs.ByNumbers.{kind-const, kind-var, kind-proc}
 use Rattle.walk.specs.Walk.{valueBy, valueIn, placeIn}
-
--- the kinds by their numbers
-kind-const : (k : ℕ) → k ≡ 1 → kindOf k ≡ const
-unfolding kindOf
-kind-const k h = rw (eq-eqb k 1 h, kindOf)
-
-kind-var : (k : ℕ) → k ≡ 2 → kindOf k ≡ var
-unfolding kindOf
-kind-var k h = rw (ne-eqb k 1 (λ e. omega (arith, e)), eq-eqb k 2 h, kindOf)
-
-kind-proc : (k : ℕ) → (k ≡ 1 → ⊥) → (k ≡ 2 → ⊥) → kindOf k ≡ procedure
-unfolding kindOf
-kind-proc k g h = rw (ne-eqb k 1 g, ne-eqb k 2 h, kindOf)
 
 module _ (s xs : List ℕ) (k : ℕ) (w : List ℕ) (r : Found) (f : Finds s xs k r (find (rowsIn s xs k) w (scopeAt s xs 0))) where
   is-none : r ≡ Nothing → find (rowsIn s xs k) w mainScope ≡ none

@@ -13,6 +13,7 @@ use Rattle.numbers.specs.declared.screen.Put.{Put}
 use Rattle.numbers.specs.declared.screen.Put.the-variants.{At, Full}
 use Rattle.numbers.specs.Answers.{Puts, Wrote, Kept}
 use Rattle.tree.specs.Tree.{Exp}
+use Rattle.tree.specs.Standing.{ExpAt}
 use Rattle.symbols.specs.Symbols.{Row}
 use Rattle.walk.specs.declared.expressions.Env.{Env}
 use Rattle.walk.specs.declared.expressions.Clock.{Clock}
@@ -22,7 +23,7 @@ use Rattle.walk.specs.declared.progress.Progress.{Progress}
 use Rattle.walk.specs.declared.progress.Outcome.{Outcome}
 use Rattle.walk.specs.declared.progress.Outcome.the-variants.{Refused}
 use Rattle.walk.specs.Walk.{State, atTop, wrote, put, putNumber, walkExp}
-use Rattle.walk.specs.Meets.{ExpAt, Shows, Gives}
+use Rattle.walk.specs.Meets.{Shows, Gives}
 use Rattle.walk.specs.Holds.{withClock, Holds, Ends, refused, Steps, Writes, writeWalk}
 use Rattle.walk.proofs.Steps.{step-on, refuse-on, spent-unless}
 use Rattle.walk.proofs.Lines.{onto-length, onto-more}

@@ -1,21 +1,23 @@
 -- Laws of assignments.
 use mathlib.Core.Path.{_≡_, sym, ap, _∙_}
 use mathlib.Core.List.{List}
-use Prim.Native.Nat.{ℕ, _+_, _-_, _≤_}
-use native.Mathlib.Omega.{arith}
+use Prim.Native.Nat.{ℕ, _+_, _-_}
 use lib.IntN.{ℤ}
 use lib.ListN.{length, getD, set, length-set}
 use Rattle.numbers.specs.Panel.{budgetSpent}
 use Rattle.numbers.specs.Lent.{onto}
 use Rattle.lexer.specs.Tokens.{Name}
 use Rattle.tree.specs.Tree.{Exp, Stmt, assign}
-use Rattle.tree.specs.Layout.{assignKind, noMore, member, nodeNo, size}
+use Rattle.tree.specs.Layout.{assignKind, noMore, member, nodeNo}
 use Rattle.tree.specs.Nodes.{nameNode, expNode, stmtNode}
 use Rattle.tree.specs.Named.{NamedStmt}
-use Rattle.tree.specs.Reading.{word-at, first-at, two-at}
-use Rattle.tree.specs.Heads.{nodeHead, StmtIs, isAssign, stmt-is}
+use Rattle.tree.specs.Reading.{word-at, first-at}
+use Rattle.tree.specs.Heads.{nodeHead, StmtIs, isAssign}
+use Rattle.tree.specs.Standing.{NameAt, HasName, ExpAt, StmtAt, HasStmt}
+use Rattle.tree.specs.Parts.{stmt-by, assigned}
 use Rattle.symbols.specs.Symbols.{mainScope, Row, find}
 use Rattle.symbols.specs.Table.{part}
+use Rattle.symbols.specs.ByNumbers.{name-is}
 use Rattle.walk.specs.declared.expressions.Env.{Env}
 use Rattle.walk.specs.declared.expressions.Clock.{Clock}
 use Rattle.walk.specs.declared.expressions.Valued.{Valued}
@@ -24,21 +26,10 @@ use Rattle.walk.specs.declared.progress.Progress.{Progress}
 use Rattle.walk.specs.declared.progress.Outcome.{Outcome}
 use Rattle.walk.specs.declared.progress.Outcome.the-variants.{Refused}
 use Rattle.walk.specs.Walk.{State, atTop, stored, placeIn, store, walkExp, walkStmt}
-use Rattle.walk.specs.Meets.{ExpAt, HasExp, Shows, Gives}
-use Rattle.walk.specs.Holds.{NameAt, HasName, StmtAt, HasStmt, withClock, Holds, Ends, Steps}
+use Rattle.walk.specs.Meets.{Shows, Gives}
+use Rattle.walk.specs.Holds.{withClock, Holds, Ends, Steps}
 use Rattle.walk.proofs.Steps.{step-on}
-use Rattle.walk.proofs.Parts.{name-is}
 use Rattle.walk.proofs.Ends.{shown, spent, ends-as, ends-at, exp-stop, exp-then}
-
--- a name's four numbers
-pub name-fits : {s tr : List ℕ} {i : ℕ} → HasName s tr i → i + 4 ≤ length tr
-name-fits {s} {tr} {i} h = let n = h .name in omega (arith, word-at tr i 0 (n .at) (length (n .text)) (h .at .stands) .fits)
-
-pub name-lies : {s tr : List ℕ} {i : ℕ} → HasName s tr i → getD tr (i + 2) 0 + getD tr (i + 3) 0 ≤ length s
-name-lies {s} {tr} {i} h =
-    let n = h .name in
-    let f = word-at tr i 0 (n .at) (length (n .text)) (h .at .stands) in
-    omega (arith, f .at2, f .at3, h .at .named .fits)
 
 -- the variables with a value put into one
 abbrev withVar : State → ℕ → ℤ → State
@@ -75,27 +66,11 @@ module _ {s tr : List ℕ} {i : ℕ} where
   unfolding stmtNode NamedStmt
   assign-name {n} {x} a = record { stands = first-at tr i assignKind 0 (nameNode n) (member (expNode 0 x) noMore) (a .stands) .one; named = a .named .0 }
 
-  assign-exp : {n : Name} {x : Exp} → StmtAt s tr i (assign n x) → ExpAt s tr (i + 8) x
-  unfolding stmtNode NamedStmt size
-  assign-exp {n} {x} a =
-      let f = first-at tr i assignKind 0 (nameNode n) (member (expNode 0 x) noMore) (a .stands) in
-      let q : i + 4 + 4 ≡ i + 8 = omega arith in
-      record { op = 0; stands = two-at tr (i + 8) (expNode 0 x) noMore (rw q at (f .others)) .one; named = a .named .1 }
-
-  assign-is : getD tr i 0 ≡ nodeNo assignKind → {t : Stmt} → StmtAt s tr i t → StmtIs (nodeHead assignKind) t
-  assign-is k {t} a = stmt-is (nodeHead assignKind) tr i t k (a .stands)
-
   pub has-target : getD tr i 0 ≡ nodeNo assignKind → HasStmt s tr i → HasName s tr (i + 4)
-  has-target k h = of (assign-is k (h .at)) (h .at)
+  has-target k h = of (stmt-by (nodeHead assignKind) k (h .at)) (h .at)
     where
       of : {t : Stmt} → StmtIs (nodeHead assignKind) t → StmtAt s tr i t → HasName s tr (i + 4)
       of (isAssign n x) a = record { name = n; at = assign-name a }
-
-  pub has-value : getD tr i 0 ≡ nodeNo assignKind → HasStmt s tr i → HasExp s tr (i + 8)
-  has-value k h = of (assign-is k (h .at)) (h .at)
-    where
-      of : {t : Stmt} → StmtIs (nodeHead assignKind) t → StmtAt s tr i t → HasExp s tr (i + 8)
-      of (isAssign n x) a = record { exp = x; at = assign-exp a }
 
 module _ (rs : List Row) (s tr : List ℕ) (i : ℕ) (e : Env) (vars : List ℤ) (p : Progress) (k : getD tr i 0 ≡ nodeNo assignKind) {r : Valued} (x : (t : Exp) → ExpAt s tr (i + 8) t → (w : State) → Shows vars e (p .clock) w → Gives (p .clock .top + 1) (p .clock) w (walkExp rs t (p .clock .left) w) r) where
   abbrev Meet : List ℤ → Outcome → Type 0
@@ -103,15 +78,15 @@ module _ (rs : List Row) (s tr : List ℕ) (i : ℕ) (e : Env) (vars : List ℤ)
 
   pub assign-stop : {m : ℕ} {d : Clock} {q : Outcome} → r ≡ Stopped m d → ((k : ℕ) (d : Clock) → r ≡ Stopped k d → q ≡ Refused k (withClock p d)) → Meet vars q
   unfolding walkStmt
-  assign-stop {m} {d} {q} g f t a room input lv lo out w h = of (assign-is k a) a
+  assign-stop {m} {d} {q} g f t a room input lv lo out w h = of (stmt-by (nodeHead assignKind) k a) a
     where
       of : {t : Stmt} → StmtIs (nodeHead assignKind) t → StmtAt s tr i t → Ends e input lv lo vars out p (walkStmt rs room t (p .clock .left) w) q
-      of (isAssign n y) b = ends-at (f m d g) (exp-stop h (x y (assign-exp b) w (shown h)) g (λ z. store rs n z))
+      of (isAssign n y) b = ends-at (f m d g) (exp-stop h (x y (assigned n y b) w (shown h)) g (λ z. store rs n z))
 
   pub assign-on : {z v : ℤ} {d : Clock} {vars′ : List ℤ} {q : Outcome} {u : Progress} → r ≡ Value z d → v ≡ z → u ≡ withClock p d
       → ((n : Name) → NameAt s tr (i + 4) n → (input : List ℕ) (lv : List ℤ) (lo out : List ℕ) (w : State) → Holds e input lv lo vars out u w → Ends e input lv lo vars′ out u (store rs n v (u .clock .left) w) q) → Meet vars′ q
   unfolding walkStmt
-  assign-on {z} {v} {d} {vars′} {q} {u} g c j f t a room input lv lo out w h = of (assign-is k a) a
+  assign-on {z} {v} {d} {vars′} {q} {u} g c j f t a room input lv lo out w h = of (stmt-by (nodeHead assignKind) k a) a
     where
       of : {t : Stmt} → StmtIs (nodeHead assignKind) t → StmtAt s tr i t → Ends e input lv lo vars′ out p (walkStmt rs room t (p .clock .left) w) q
-      of (isAssign n y) b = exp-then h (x y (assign-exp b) w (shown h)) g (λ z. store rs n z) (λ held. rw (← c) (rw j at (f n (assign-name b) input lv lo out (atTop (d .top) w) (rw j held))))
+      of (isAssign n y) b = exp-then h (x y (assigned n y b) w (shown h)) g (λ z. store rs n z) (λ held. rw (← c) (rw j at (f n (assign-name b) input lv lo out (atTop (d .top) w) (rw j held))))

@@ -7,6 +7,7 @@ use native.Mathlib.Omega.{arith}
 use lib.IntN.{ℤ, pos}
 use Rattle.numbers.specs.Arithmetic.{eqZ}
 use Rattle.tree.specs.Tree.{Cond}
+use Rattle.tree.specs.Standing.{CondAt, HasCond}
 use Rattle.symbols.specs.Symbols.{Row}
 use Rattle.walk.specs.declared.expressions.Env.{Env}
 use Rattle.walk.specs.declared.expressions.Clock.{Clock}
@@ -18,7 +19,7 @@ use Rattle.walk.specs.declared.progress.Outcome.the-variants.{Done, Refu
 use Rattle.walk.specs.declared.statements.Tested.{Tested}
 use Rattle.walk.specs.declared.statements.Tested.the-variants.{Passed, Failed, Stopped as Untested}
 use Rattle.walk.specs.Walk.{State, Result, ok, stop, Walk, then, _>>_, pure, whether, step, atTop, tested}
-use Rattle.walk.specs.Meets.{Gives, gives, halts, CondAt, HasCond}
+use Rattle.walk.specs.Meets.{Gives, gives, halts}
 use Rattle.walk.specs.Holds.{withClock, Holds, HasState, Ends, done, refused, Steps}
 use Rattle.walk.specs.Tests.{testWalk, Tests, passed, failed, stopped}
 use Rattle.walk.proofs.Ends.{hold-clock, ends-as, ends-from}

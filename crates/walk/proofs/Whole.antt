@@ -18,6 +18,7 @@ use Rattle.tree.specs.Nodes.{listNodes, nameNode, constsNode, namesNode, procsN
 use Rattle.tree.specs.Named.{Each, NamedStmt}
 use Rattle.tree.specs.Reading.{Two, branch-at, first-at, next-at, After}
 use Rattle.tree.specs.Heads.{procsNo, procs-head}
+use Rattle.tree.specs.Standing.{StmtAt}
 use Rattle.symbols.specs.Symbols.{mainScope, Row}
 use Rattle.symbols.specs.Table.{rowsIn}
 use Rattle.symbols.specs.Kept.{rows-length}
@@ -27,7 +28,7 @@ use Rattle.walk.specs.declared.progress.Outcome.{Outcome}
 use Rattle.walk.specs.declared.progress.Outcome.the-variants.{Done, Refused}
 use Rattle.walk.specs.Walk.{State, Result, then, _>>_, tick, opened, atTop, walkStmt, walkStmts, walkMain, walked, begin, declaredRows, walkBlock}
 use Rattle.walk.specs.Meets.{rowsOf}
-use Rattle.walk.specs.Holds.{StmtAt, Rows, Holds, HasState, Ends, done, refused, Steps}
+use Rattle.walk.specs.Holds.{Rows, Holds, HasState, Ends, done, refused, Steps}
 use Rattle.walk.specs.Tests.{partWalk}
 use Rattle.walk.specs.Trees.{anyProcs, startOf, openWalk, TreeAt, Walks, finished, halted}
 use Rattle.walk.proofs.Steps.{at-top}

@@ -7,10 +7,7 @@ use lib.ListN.{length, drop}
 use Rattle.numbers.specs.Limits.{greatest}
 use Rattle.numbers.specs.Lent.{onto}
 use Rattle.lexer.specs.Tokens.{Name}
-use Rattle.tree.specs.Tree.{Exp, Stmt}
-use Rattle.tree.specs.Layout.{enc, Stands}
-use Rattle.tree.specs.Nodes.{nameNode, stmtNode}
-use Rattle.tree.specs.Named.{NameIn, NamedStmt}
+use Rattle.tree.specs.Tree.{Exp}
 use Rattle.symbols.specs.Symbols.{Row}
 use Rattle.symbols.specs.Table.{field, valueOf, Sound, Seen}
 use Rattle.walk.specs.declared.expressions.Env.{Env}
@@ -21,24 +18,6 @@ use Rattle.walk.specs.declared.progress.Outcome.the-variants.{Done, Refu
 use Rattle.walk.specs.declared.reading.Entered.{Entered}
 use Rattle.walk.specs.declared.reading.Entered.the-variants.{Number, Stopped}
 use Rattle.walk.specs.Walk.{State, Result, ok, stop, Walk, _>>=_, step, readLine, store, put, putNumber, walkExp}
-
--- a name that stands in the tree
-pub record NameAt (s tr : List ℕ) (i : ℕ) (n : Name) : Type 0 where
-  pub stands : Stands tr i (enc (nameNode n))
-  pub named : NameIn s n
-
-pub record HasName (s tr : List ℕ) (i : ℕ) : Type 0 where
-  pub name : Name
-  pub at : NameAt s tr i name
-
--- a statement that stands in the tree
-pub record StmtAt (s tr : List ℕ) (i : ℕ) (t : Stmt) : Type 0 where
-  pub stands : Stands tr i (enc (stmtNode t))
-  pub named : NamedStmt s t
-
-pub record HasStmt (s tr : List ℕ) (i : ℕ) : Type 0 where
-  pub stmt : Stmt
-  pub at : StmtAt s tr i stmt
 
 -- the rows are sound, what the main program sees of them is set out, and their values are within i64
 pub record Rows (s xs : List ℕ) (e : Env) : Type 0 where

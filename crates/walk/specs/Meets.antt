@@ -1,4 +1,4 @@
--- What the walk's functions ask and promise: what stands in the tree, how the lent lists hold a state, and how a walk's answer is met.
+-- What the walk's functions ask and promise: how the lent lists hold a state, and how a walk's answer is met.
 use mathlib.Core.Path.{_≡_}
 use mathlib.Core.List.{List}
 use Prim.Native.Nat.{ℕ, _≤_, _<_}
@@ -7,10 +7,7 @@ use lib.ListN.{length}
 use Rattle.numbers.specs.Limits.{greatest}
 use Rattle.numbers.specs.Lent.{onto}
 use Rattle.numbers.specs.Arithmetic.{Arith, arith, Compare, compared, negated}
-use Rattle.tree.specs.Tree.{Exp, Cond}
-use Rattle.tree.specs.Layout.{enc, Stands}
-use Rattle.tree.specs.Nodes.{expNode, condNode}
-use Rattle.tree.specs.Named.{NamedExp, NamedCond}
+use Rattle.tree.specs.Tree.{Exp}
 use Rattle.symbols.specs.Symbols.{Row}
 use Rattle.symbols.specs.Table.{field, valueOf, rowsIn, Sound, Seen}
 use Rattle.walk.specs.declared.expressions.Env.{Env}
@@ -18,26 +15,6 @@ use Rattle.walk.specs.declared.expressions.Clock.{Clock}
 use Rattle.walk.specs.declared.expressions.Valued.{Valued}
 use Rattle.walk.specs.declared.expressions.Valued.the-variants.{Value, Stopped}
 use Rattle.walk.specs.Walk.{State, Result, ok, stop, Walk, _>>=_, atTop, onOne, onTwo, walkExp}
-
--- the expression t stands at i, with names of the text s
-pub record ExpAt (s tr : List ℕ) (i : ℕ) (t : Exp) : Type 0 where
-  pub op : ℕ
-  pub stands : Stands tr i (enc (expNode op t))
-  pub named : NamedExp s t
-
--- some expression does
-pub record HasExp (s tr : List ℕ) (i : ℕ) : Type 0 where
-  pub exp : Exp
-  pub at : ExpAt s tr i exp
-
--- a condition
-pub record CondAt (s tr : List ℕ) (i : ℕ) (t : Cond) : Type 0 where
-  pub stands : Stands tr i (enc (condNode t))
-  pub named : NamedCond s t
-
-pub record HasCond (s tr : List ℕ) (i : ℕ) : Type 0 where
-  pub cond : Cond
-  pub at : CondAt s tr i cond
 
 -- the rows are sound, what the main program sees of them is set out, their values are within i64, and there is room for the variables
 pub record Known (s xs : List ℕ) (e : Env) (vars : List ℤ) : Type 0 where

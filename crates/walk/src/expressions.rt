@@ -20,10 +20,11 @@ ghost use Rattle.numbers.specs.Answers.{valOf};
 ghost use Rattle.tree.specs.Tree.{Exp, Cond};
 ghost use Rattle.tree.specs.Layout.{chainKind, nodeNo};
 ghost use Rattle.tree.specs.Nodes.{arithNo, compareNo};
+ghost use Rattle.tree.specs.Standing.{ExpAt, HasExp, CondAt, HasCond};
 ghost use Rattle.symbols.specs.Symbols.{mainScope, find};
 ghost use Rattle.symbols.specs.Table.{part};
 ghost use Rattle.walk.specs.Walk.{State, push, result, valueIn, walkExp, walkCond};
-ghost use Rattle.walk.specs.Meets.{Known, rowsOf, Cells, Shows, Gives, negWalk, linkWalk, relWalk, ExpAt, HasExp, CondAt, HasCond};
+ghost use Rattle.walk.specs.Meets.{Known, rowsOf, Cells, Shows, Gives, negWalk, linkWalk, relWalk};
 
 // The panel's numbers.
 pub const BUDGET_SPENT: u8 = 16;

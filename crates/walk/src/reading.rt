@@ -17,9 +17,10 @@ ghost use lib.ListN.{length, getD};
 ghost use Rattle.lexer.specs.Tokens.{Name};
 ghost use Rattle.tree.specs.Tree.{Stmt};
 ghost use Rattle.tree.specs.Layout.{readKind, nodeNo};
+ghost use Rattle.tree.specs.Standing.{NameAt, HasName, StmtAt, HasStmt};
 ghost use Rattle.walk.specs.Walk.{State, walkStmt};
 ghost use Rattle.walk.specs.Meets.{rowsOf};
-ghost use Rattle.walk.specs.Holds.{NameAt, HasName, StmtAt, HasStmt, Rows, Holds, HasState, Ends, Enters, readWalk};
+ghost use Rattle.walk.specs.Holds.{Rows, Holds, HasState, Ends, Enters, readWalk};
 
 // The panel's numbers.
 const BAD_ENTRY: u8 = 22;

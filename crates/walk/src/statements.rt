@@ -16,9 +16,10 @@ ghost use lib.IntN.{ℤ};
 ghost use lib.ListN.{length, getD};
 ghost use Rattle.tree.specs.Tree.{Cond, Stmt};
 ghost use Rattle.tree.specs.Layout.{ifKind, whileKind, bodyKind, nodeNo};
+ghost use Rattle.tree.specs.Standing.{CondAt, HasCond, StmtAt, HasStmt};
 ghost use Rattle.walk.specs.Walk.{State, walkStmt};
-ghost use Rattle.walk.specs.Meets.{Known, rowsOf, CondAt, HasCond};
-ghost use Rattle.walk.specs.Holds.{StmtAt, HasStmt, Rows, Holds, HasState, Ends};
+ghost use Rattle.walk.specs.Meets.{Known, rowsOf};
+ghost use Rattle.walk.specs.Holds.{Rows, Holds, HasState, Ends};
 ghost use Rattle.walk.specs.Tests.{testWalk, partWalk, Tests};
 
 // What a condition that was tested says.

@@ -18,11 +18,12 @@ ghost use Rattle.numbers.specs.Lent.{onto};
 ghost use Rattle.lexer.specs.Tokens.{Name};
 ghost use Rattle.tree.specs.Tree.{Stmt};
 ghost use Rattle.tree.specs.Layout.{assignKind, nodeNo};
+ghost use Rattle.tree.specs.Standing.{NameAt, HasName, StmtAt, HasStmt};
 ghost use Rattle.symbols.specs.Symbols.{mainScope, find};
 ghost use Rattle.symbols.specs.Table.{part};
 ghost use Rattle.walk.specs.Walk.{State, placeIn, store, walkStmt};
 ghost use Rattle.walk.specs.Meets.{rowsOf};
-ghost use Rattle.walk.specs.Holds.{NameAt, HasName, StmtAt, HasStmt, Rows, Holds, Ends};
+ghost use Rattle.walk.specs.Holds.{Rows, Holds, Ends};
 
 // The place of the variable that a name finds.
 fn place(text: &[u8], table: &[u32], env: Env, at: u32, len: u32) -> usize

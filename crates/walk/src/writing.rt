@@ -18,9 +18,10 @@ ghost use Rattle.numbers.specs.Screen.{newline};
 ghost use Rattle.numbers.specs.Answers.{Puts};
 ghost use Rattle.tree.specs.Tree.{Exp, Stmt};
 ghost use Rattle.tree.specs.Layout.{writeKind, nodeNo};
+ghost use Rattle.tree.specs.Standing.{ExpAt, HasExp, StmtAt, HasStmt};
 ghost use Rattle.walk.specs.Walk.{State, walkStmt};
-ghost use Rattle.walk.specs.Meets.{Known, rowsOf, ExpAt, HasExp};
-ghost use Rattle.walk.specs.Holds.{StmtAt, HasStmt, Holds, Ends, Writes, writeWalk};
+ghost use Rattle.walk.specs.Meets.{Known, rowsOf};
+ghost use Rattle.walk.specs.Holds.{Holds, Ends, Writes, writeWalk};
 
 // The panel's number.
 const OUTPUT_FULL: u8 = 23;

@@ -10,10 +10,11 @@ use Rattle.emission.specs.Statements.{expCode}
 use Rattle.emission.specs.Meets.{hereOf}
 use Rattle.emission.specs.Drafting.{wrote-at, stops, stop, then}
 use Rattle.emission.proofs.Lists.{Loop, loop-head, loop-stop, loop-more, loop-done}
-use Rattle.emission.proofs.Exps.{exp-fits, ref-in, has-neg, is-brackets, has-brackets, has-first, exp-ref, exp-lit, exp-neg, exp-brackets, Links, links-empty, links-start, chain-stop, chain-end, link-ens, link-small, the-chain}
+use Rattle.emission.proofs.Exps.{exp-ref, exp-lit, exp-neg, exp-brackets, Links, links-empty, links-start, chain-stop, chain-end, link-ens, link-small}
 use Prim.Native.Nat.{ℕ, _<_}
 use borrow.Fn.Kinds.{In}
 use borrow.Fn.PlainCycle.{Measures, is, falls, and}
+use Rattle.tree.specs.Parts.{exp-fits, ref-in, has-neg, is-brackets, has-brackets, the-chain, has-first}
 use Rattle.emission.proofs.expressions.chain.Reads as chain
 use Rattle.emission.proofs.expressions.chain.Kinds as chain-kinds
 use Rattle.emission.proofs.expressions.+chain+exp+operated.Lts-chain as chain-lts

@@ -3,8 +3,9 @@ use borrow.Author.Needs.{needs}
 use native.Mathlib.Omega.{arith}
 use mathlib.Core.Path.{_∙_}
 use Rattle.emission.specs.Drafting.{wrote-at, stops}
-use Rattle.emission.proofs.Exps.{cond-fits, has-odd, has-left, has-right, rel-small, cond-odd, cond-stop, cond-rel}
+use Rattle.emission.proofs.Exps.{rel-small, cond-odd, cond-stop, cond-rel}
 use borrow.Author.Needs.{needs}
+use Rattle.tree.specs.Parts.{cond-fits, cond-first, has-right}
 use Rattle.emission.proofs.expressions.l_exp.Statement.{statement}
 use Rattle.emission.proofs.expressions.l_exp.Tie as tie
 use Rattle.emission.proofs.expressions.l_exp.Reads as reads
@@ -27,7 +28,7 @@ add-operated c = omega (arith, cond-fits (c .before .before .before .before .bef
 
 -- src/expressions.rt:142:9
 operated-requires : tie.Need-operated-requires
-operated-requires c κs = (c .before .before .before .before .before .before .before .pre .0, has-odd (c .before .if1 .taken) (c .before .before .before .before .before .before .before .pre .1))
+operated-requires c κs = (c .before .before .before .before .before .before .before .pre .0, cond-first _ (c .before .before .before .before .before .before .before .pre .1 .at))
 
 -- src/expressions.rt:142:9
 same-length : tie.Need-same-length
@@ -43,7 +44,7 @@ add-exp c = omega (arith, cond-fits (c .before .before .before .before .before .
 
 -- src/expressions.rt:144:9
 exp-requires : tie.Need-exp-requires
-exp-requires c κs = (c .before .before .before .before .before .before .before .pre .0, has-left (c .before .if1 .left) (c .before .before .before .before .before .before .before .pre .1))
+exp-requires c κs = (c .before .before .before .before .before .before .before .pre .0, cond-first _ (c .before .before .before .before .before .before .before .pre .1 .at))
 
 -- src/expressions.rt:145:18
 enum-known-r : tie.Need-enum-known-r
@@ -67,7 +68,7 @@ add-after c = omega (arith, cond-fits (c .before .before .before .before .before
 
 -- src/expressions.rt:148:20
 after-requires : tie.Need-after-requires
-after-requires c κs = (_, has-left (c .before .before .before .before .before .before .before .if1 .left) (c .before .before .before .before .before .before .before .before .before .before .before .before .before .pre .1) .at .stands)
+after-requires c κs = (_, cond-first _ (c .before .before .before .before .before .before .before .before .before .before .before .before .before .pre .1 .at) .at .stands)
 
 -- src/expressions.rt:148:64
 add-operated-2 : tie.Need-add-operated-2
@@ -87,7 +88,7 @@ add-operated-3 c = omega (arith, rel-small (c .before .before .before .before .b
 
 -- src/expressions.rt:148:5
 operated-requires-2 : tie.Need-operated-requires-2
-operated-requires-2 c κs = (record { known = c .before .before .before .before .before .before .before .before .before .before .before .before .before .before .before .before .pre .0 .known; room = omega (arith, c .before .before .before .before .before .before .before .before .before .before .before .before .before .before .before .before .pre .0 .room, c .before .before .before .before .before .before .before .before .exp .kept .1 .1 .1 .1 .1 .0); most = wrote-at (c .before .before .before .before .r .given .1) (c .before .before .before .before .before .before .before .before .exp .ensures _ (has-left (c .before .before .before .before .before .before .before .before .before .before .if1 .left) (c .before .before .before .before .before .before .before .before .before .before .before .before .before .before .before .before .pre .1) .at)) .most }, has-right (c .before .before .before .before .before .before .before .before .before .before .if1 .left) (c .before .before .after .ensures) (c .before .before .before .before .before .before .before .before .before .before .before .before .before .before .before .before .pre .1))
+operated-requires-2 c κs = (record { known = c .before .before .before .before .before .before .before .before .before .before .before .before .before .before .before .before .pre .0 .known; room = omega (arith, c .before .before .before .before .before .before .before .before .before .before .before .before .before .before .before .before .pre .0 .room, c .before .before .before .before .before .before .before .before .exp .kept .1 .1 .1 .1 .1 .0); most = wrote-at (c .before .before .before .before .r .given .1) (c .before .before .before .before .before .before .before .before .exp .ensures _ (cond-first _ (c .before .before .before .before .before .before .before .before .before .before .before .before .before .before .before .before .pre .1 .at) .at)) .most }, has-right (c .before .before .before .before .before .before .before .before .before .before .if1 .left) (c .before .before .after .ensures) (c .before .before .before .before .before .before .before .before .before .before .before .before .before .before .before .before .pre .1))
 
 -- src/expressions.rt:136:1
 same-length-3 : tie.Need-same-length-3

@@ -9,11 +9,12 @@ use Rattle.emission.specs.Meets.{hereOf}
 use Rattle.emission.specs.Drafting.{wrote-at, stops}
 use Rattle.emission.specs.Jumps.{one}
 use Rattle.emission.proofs.Lists.{Loop, loop-head, loop-stop, loop-more, loop-done}
-use Rattle.emission.proofs.Stmts.{stmt-fits, Body, body-start, body-empty}
-use Rattle.emission.proofs.Flow.{guard-fits, has-cond, has-inner, guard-stop, guard-full, guard-inner, guard-made, has-if, has-else, if-stop, if-full, if-short, if-inner, if-made, has-while, while-stop, while-made, is-write}
+use Rattle.emission.proofs.Stmts.{Body, body-start, body-empty}
+use Rattle.emission.proofs.Flow.{has-cond, has-inner, guard-stop, guard-full, guard-inner, guard-made, has-if, if-stop, if-full, if-short, if-inner, if-made, has-while, while-stop, while-made, is-write}
 use Prim.Native.Nat.{ℕ, _<_}
 use borrow.Fn.Kinds.{In}
 use borrow.Fn.PlainCycle.{Measures, is, falls, and}
+use Rattle.tree.specs.Parts.{stmt-fits, guard-fits, if-other}
 use Rattle.emission.proofs.statements.body.Reads as body
 use Rattle.emission.proofs.statements.body.Kinds as body-kinds
 use Rattle.emission.proofs.statements.+body+conditional+guarded+looped+statement.Lts-body as body-lts
@@ -164,14 +165,14 @@ pub +body+conditional+guarded+looped+statement-spec : {M : Type 1} → statement
     (λ c. omega (arith, stmt-fits (c .before .before .before .before .before .before .before .before .before .before .before .before .before .before .before .before .before .before .before .before .pre .1 .1 .0 .at), c .before .before .before .before .before .before .before .before .before .before .before .before .before .before .before .before .before .before .before .before .good))
     (λ c κs. (_, has-cond (has-if (c .before .before .before .before .before .before .before .before .before .before .before .before .before .before .before .before .before .before .before .before .pre .1 .1 .1) (c .before .before .before .before .before .before .before .before .before .before .before .before .before .before .before .before .before .before .before .before .pre .1 .1 .0)) .at .stands))
     (λ c κs. (_, has-inner (c .after .ensures) (has-if (c .before .before .before .before .before .before .before .before .before .before .before .before .before .before .before .before .before .before .before .before .before .pre .1 .1 .1) (c .before .before .before .before .before .before .before .before .before .before .before .before .before .before .before .before .before .before .before .before .before .pre .1 .1 .0)) .has .at .stands))
-    (λ c κs. let d = has-else (c .before .before .before .before .before .before .before .before .before .before .before .before .before .before .before .before .before .before .before .before .before .before .before .pre .1 .1 .1) (c .before .before .before .before .before .before .before .before .before .before .before .before .before .before .before .before .before .before .before .before .before .before .before .pre .1 .1 .0) (c .before .before .before .if1 .left) (c .before .before .after .ensures) (c .before .after2 .ensures) in
+    (λ c κs. let d = if-other (c .before .before .before .before .before .before .before .before .before .before .before .before .before .before .before .before .before .before .before .before .before .before .before .pre .1 .1 .1) (c .before .before .before .before .before .before .before .before .before .before .before .before .before .before .before .before .before .before .before .before .before .before .before .pre .1 .1 .0) (c .before .before .before .if1 .left) (c .before .before .after .ensures) (c .before .after2 .ensures) in
     let w = one (c .before .before .before .before .before .before .b .given .1) (c .before .before .before .before .before .before .before .before .before .before .emit .ensures JMP refl) in
     (omega (arith, c .before .before .before .before .before .before .before .before .before .before .before .before .before .before .before .before .before .before .before .before .before .before .before .pre .0, d .fits, d .beyond), (record { known = c .before .before .before .before .before .before .before .before .before .before .before .before .before .before .before .before .before .before .before .before .before .before .before .pre .1 .0 .known; room = omega (arith, c .before .before .before .before .before .before .before .before .before .before .before .before .before .before .before .before .before .before .before .before .before .before .before .pre .1 .0 .room, c .before .before .before .before .before .before .before .before .before .before .before .before .before .before .before .before .before .guarded .kept .1 .1 .1 .1 .1 .0, c .before .before .before .before .before .before .before .before .before .before .emit .kept .0); most = omega (arith, w .below, w .ends) }, d .has)))
     (λ c. search needs)
     (λ c. search needs)
     (λ c. c .before .before .before .before .statement .kept .1 .1 .1 .1 .1 .0 ∙ c .before .before .before .before .before .before .before .before .before .before .before .before .before .before .before .emit .kept .0 ∙ c .before .before .before .before .before .before .before .before .before .before .before .before .before .before .before .before .before .before .before .before .before .before .guarded .kept .1 .1 .1 .1 .1 .0)
     (λ c. if-inner _ (c .before .before .before .before .before .before .before .before .before .before .before .before .before .before .before .before .before .before .before .before .before .before .before .before .before .before .before .before .pre .1 .1 .1) (c .before .before .before .before .before .before .before .before .before .before .before .before .before .before .before .before .before .before .before .before .before .before .guarded .ensures) (c .before .before .before .before .before .before .before .before .before .before .before .before .before .before .before .before .before .before .before .before .before .before .before .before .before .before .before .before .pre .1 .0 .most) (c .before .before .before .before .before .before .before .before .before .before .before .before .before .before .before .before .before .before .a .given .1) (c .before .before .before .before .before .before .before .before .before .before .before .before .before .before .before .emit .ensures JMP refl) (c .before .before .before .before .before .before .before .before .before .before .before .b .given .1) (omega (arith, c .before .before .before .before .before .before .before .before .before .before .before .before .before .before .before .before .before .before .before .before .before .before .before .before .before .before .before .before .pre .1 .0 .room, c .before .before .before .before .before .before .before .before .before .before .before .before .before .before .before .before .before .before .before .before .before .before .guarded .kept .1 .1 .1 .1 .1 .0)) (c .before .before .before .before .before .before .before .before .if1 .left) (c .before .before .before .before .before .before .before .after .ensures) (c .before .before .before .before .before .before .after2 .ensures) (c .before .before .before .before .statement .ensures) _ (stops (c .enum-told3 .given .1)))
-    (λ c κs. let d = has-else (c .before .before .before .before .before .before .before .before .before .before .before .before .before .before .before .before .before .before .before .before .before .before .before .before .before .before .before .before .before .before .pre .1 .1 .1) (c .before .before .before .before .before .before .before .before .before .before .before .before .before .before .before .before .before .before .before .before .before .before .before .before .before .before .before .before .before .before .pre .1 .1 .0) (c .before .before .before .before .before .before .before .before .before .before .if1 .left) (c .before .before .before .before .before .before .before .before .before .after .ensures) (c .before .before .before .before .before .before .before .before .after2 .ensures) in
+    (λ c κs. let d = if-other (c .before .before .before .before .before .before .before .before .before .before .before .before .before .before .before .before .before .before .before .before .before .before .before .before .before .before .before .before .before .before .pre .1 .1 .1) (c .before .before .before .before .before .before .before .before .before .before .before .before .before .before .before .before .before .before .before .before .before .before .before .before .before .before .before .before .before .before .pre .1 .1 .0) (c .before .before .before .before .before .before .before .before .before .before .if1 .left) (c .before .before .before .before .before .before .before .before .before .after .ensures) (c .before .before .before .before .before .before .before .before .after2 .ensures) in
     let v = wrote-at (c .before .before .r .given .1) (c .before .before .before .before .before .before .statement .ensures _ (d .has .at)) in
     (omega (arith, c .before .before .before .before .before .before .before .before .before .before .before .before .before .before .before .before .before .before .before .before .before .before .before .before .before .before .before .before .before .before .pre .1 .0 .room, c .before .before .before .before .before .before .before .before .before .before .before .before .before .before .before .before .before .before .before .before .before .before .before .before .guarded .kept .1 .1 .1 .1 .1 .0, c .before .before .before .before .before .before .before .before .before .before .before .before .before .before .before .before .before .emit .kept .0, c .before .before .before .before .before .before .statement .kept .1 .1 .1 .1 .1 .0), (one (c .before .before .before .before .before .before .before .before .before .before .before .before .before .b .given .1) (c .before .before .before .before .before .before .before .before .before .before .before .before .before .before .before .before .before .emit .ensures JMP refl) .below, omega (arith, v .most))))
     (λ c. c .before .before .fix2 .kept .0 ∙ c .before .before .before .before .before .before .before .before .before .statement .kept .1 .1 .1 .1 .1 .0 ∙ c .before .before .before .before .before .before .before .before .before .before .before .before .before .before .before .before .before .before .before .before .emit .kept .0 ∙ c .before .before .before .before .before .before .before .before .before .before .before .before .before .before .before .before .before .before .before .before .before .before .before .before .before .before .before .guarded .kept .1 .1 .1 .1 .1 .0)

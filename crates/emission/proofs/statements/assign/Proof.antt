@@ -7,8 +7,9 @@ use Rattle.symbols.specs.Table.{rowOf}
 use Rattle.emission.specs.Meets.{hereOf}
 use Rattle.emission.specs.Drafting.{stops}
 use Rattle.emission.proofs.Lookup.{storing-none, storing-not, storing-stop, storing-made}
-use Rattle.emission.proofs.Stmts.{assign-in, has-assigned, by-assign}
+use Rattle.emission.proofs.Stmts.{assign-in, by-assign}
 use borrow.Author.Needs.{needs}
+use Rattle.tree.specs.Parts.{has-assigned}
 use Rattle.emission.proofs.statements.assign.Statement.{statement}
 use Rattle.emission.proofs.statements.assign.Tie as tie
 use Rattle.emission.proofs.statements.assign.Reads as reads

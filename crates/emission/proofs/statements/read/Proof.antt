@@ -4,10 +4,11 @@ use native.Mathlib.Omega.{arith}
 use mathlib.Core.Path.{_≡_, refl, _∙_}
 use Prim.Native.Nat.{_-_}
 use lib.ListN.{length}
+use Rattle.tree.specs.Parts.{stmt-fits}
 use Rattle.emission.specs.Meets.{hereOf}
 use Rattle.emission.specs.Drafting.{stops}
 use Rattle.emission.proofs.Lists.{Loop, loop-head, loop-stop, loop-more, loop-done}
-use Rattle.emission.proofs.Stmts.{stmt-fits, Reads, reads-start, reads-empty}
+use Rattle.emission.proofs.Stmts.{Reads, reads-start, reads-empty}
 use Rattle.emission.proofs.statements.read.Statement.{statement}
 use Rattle.emission.proofs.statements.read.Tie as tie
 use Rattle.emission.proofs.statements.read.Reads as reads

@@ -9,9 +9,9 @@ use Rattle.emission.specs.Pieces.{emitOper}
 use Rattle.emission.specs.Meets.{hereOf}
 use Rattle.emission.specs.Drafting.{stops}
 use Rattle.emission.proofs.Lookup.{storing-none, storing-not, storing-stop, storing-made}
-use Rattle.emission.specs.Names.{name-in}
 use Rattle.emission.proofs.Stmts.{by-name}
 use borrow.Author.Needs.{needs}
+use Rattle.tree.specs.Parts.{name-in}
 use Rattle.emission.proofs.statements.read_one.Statement.{statement}
 use Rattle.emission.proofs.statements.read_one.Tie as tie
 use Rattle.emission.proofs.statements.read_one.Reads as reads

@@ -4,13 +4,14 @@ use native.Mathlib.Omega.{arith}
 use mathlib.Core.Path.{_≡_, refl, _∙_}
 use Prim.Native.Nat.{_-_}
 use lib.ListN.{length}
+use Rattle.tree.specs.Parts.{stmt-fits}
 use Rattle.pcode.specs.Operators.{write, newLine}
 use Rattle.pcode.specs.Code.{OPR}
 use Rattle.emission.specs.Pieces.{emitOper}
 use Rattle.emission.specs.Meets.{hereOf}
 use Rattle.emission.specs.Drafting.{stops}
 use Rattle.emission.proofs.Lists.{Loop, loop-head, loop-stop, loop-more, loop-last}
-use Rattle.emission.proofs.Stmts.{stmt-fits, Writes, writes-start, writes-empty}
+use Rattle.emission.proofs.Stmts.{Writes, writes-start, writes-empty}
 use Rattle.emission.proofs.statements.write.Statement.{statement}
 use Rattle.emission.proofs.statements.write.Tie as tie
 use Rattle.emission.proofs.statements.write.Reads as reads

@@ -3,9 +3,9 @@ use borrow.Author.Needs.{needs}
 use mathlib.Core.Path.{ap}
 use Rattle.symbols.specs.declared.Symbol.{Symbol}
 use Rattle.symbols.specs.Table.{rowsIn}
-use Rattle.emission.specs.Names.{name-in}
 use Rattle.translator.proofs.Rowing.{answered, name-row, var-declares, no-procedure}
 use borrow.Author.Needs.{needs}
+use Rattle.tree.specs.Parts.{name-in}
 use Rattle.translator.proofs.declarations.name_decl.Statement.{statement}
 use Rattle.translator.proofs.declarations.name_decl.Tie as tie
 use Rattle.translator.proofs.declarations.name_decl.Reads as reads

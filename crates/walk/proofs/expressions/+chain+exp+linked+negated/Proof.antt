@@ -8,11 +8,11 @@ use mir.Syntax.{w64}
 use mir.Val.{toZ}
 use mir.ValLaws.{toZ-ofZ}
 use Rattle.numbers.specs.Arithmetic.{arith, negated}
+use Rattle.tree.specs.Parts.{exp-fits, ref-in, literal-in, has-neg, is-brackets, has-brackets, the-chain, has-first}
 use Rattle.numbers.proofs.Bits.{plain, plain-2}
 use Rattle.walk.specs.Walk.{onOne, onTwo}
 use Rattle.walk.specs.Meets.{rowsOf}
 use Rattle.walk.proofs.Cells.{some-state}
-use Rattle.walk.proofs.Parts.{exp-fits, ref-in, has-neg, is-brackets, has-brackets, has-first, the-chain, literal-in}
 use Rattle.walk.proofs.Exps.{gives-stop, went, exp-ref, exp-lit, exp-neg, exp-brackets, on-one, on-two, Loop, chain-stop, chain-start, chain-whole, chain-done, next-in, chain-halt, chain-more}
 use Prim.Native.Nat.{ℕ, _<_}
 use borrow.Fn.Kinds.{In}

@@ -5,9 +5,9 @@ use mathlib.Core.Path.{ap, _∙_}
 use mir.Syntax.{w64}
 use mir.ValLaws.{toZ-ofZ}
 use Rattle.numbers.specs.Arithmetic.{val, oddness}
+use Rattle.tree.specs.Parts.{cond-fits, cond-first, has-right}
 use Rattle.numbers.proofs.Bits.{plain}
-use Rattle.walk.proofs.Parts.{cond-fits, has-right}
-use Rattle.walk.proofs.Exps.{cond-first, cond-stop, cond-odd, cond-rel}
+use Rattle.walk.proofs.Exps.{cond-stop, cond-odd, cond-rel}
 use borrow.Author.Needs.{needs}
 use Rattle.walk.proofs.expressions.cond.Statement.{statement}
 use Rattle.walk.proofs.expressions.cond.Tie as tie

@@ -4,10 +4,11 @@ use native.Mathlib.Omega.{arith}
 use mathlib.Core.Path.{_≡_, refl, _∙_}
 use Prim.Native.Nat.{_-_}
 use lib.ListN.{length}
+use Rattle.tree.specs.Parts.{stmt-fits}
 use Rattle.walk.specs.Walk.{walkReads}
 use Rattle.walk.specs.Meets.{rowsOf}
 use Rattle.walk.proofs.Members.{along-held, along-next, along-halt, along-more, along-done}
-use Rattle.walk.proofs.Listed.{held-room, stmt-fits, ReadsF, ReadsLoop, reads-start, reads-end, the-read, reads-whole}
+use Rattle.walk.proofs.Listed.{held-room, ReadsF, ReadsLoop, reads-start, reads-end, the-read, reads-whole}
 use Rattle.walk.proofs.reading.reads.Statement.{statement}
 use Rattle.walk.proofs.reading.reads.Tie as tie
 use Rattle.walk.proofs.reading.reads.Reads as reads
@@ -24,15 +25,15 @@ abbrev μ-loop : tie.MeasureT-loop
 
 -- src/reading.rt:102:39
 add-number-at : tie.Need-add-number-at Inv-loop μ-loop
-add-number-at c = omega (arith, stmt-fits (c .before .before .before .before .before .pre .1 .0), c .before .before .before .before .before .good)
+add-number-at c = omega (arith, stmt-fits (c .before .before .before .before .before .pre .1 .0 .at), c .before .before .before .before .before .good)
 
 -- src/reading.rt:102:9
 number-at-requires : tie.Need-number-at-requires Inv-loop μ-loop
-number-at-requires c κs = omega (arith, stmt-fits (c .before .before .before .before .before .pre .1 .0), c .before .before .before .before .before .good)
+number-at-requires c κs = omega (arith, stmt-fits (c .before .before .before .before .before .pre .1 .0 .at), c .before .before .before .before .before .good)
 
 -- src/reading.rt:104:17
 add-j : tie.Need-add-j Inv-loop μ-loop
-add-j c = omega (arith, stmt-fits (c .before .before .before .before .before .before .pre .1 .0), c .before .before .before .before .before .before .good)
+add-j c = omega (arith, stmt-fits (c .before .before .before .before .before .before .pre .1 .0 .at), c .before .before .before .before .before .before .good)
 
 -- src/reading.rt:106:5
 loop-holds : tie.Need-loop-holds Inv-loop μ-loop

@@ -6,13 +6,14 @@ use Prim.Native.Nat.{_+_, _*_, _-_}
 use lib.ListN.{length}
 use Rattle.walk.specs.Meets.{rowsOf}
 use Rattle.walk.proofs.Members.{along-held, along-next, along-halt, along-more, along-done}
-use Rattle.walk.proofs.Listed.{held-room, stmt-fits}
+use Rattle.walk.proofs.Listed.{held-room}
 use Rattle.walk.proofs.Testing.{passed-held, failed-held}
-use Rattle.walk.proofs.Flow.{part-halt, part-tick, if-cond, if-inner, if-other, if-stop, if-passed, if-short, if-failed, while-cond, while-inner, Laps, laps-start, laps-held, laps-stop, laps-done, laps-halt, laps-more, laps-less}
+use Rattle.walk.proofs.Flow.{part-halt, part-tick, if-cond, if-inner, if-stop, if-passed, if-short, if-failed, while-cond, while-inner, Laps, laps-start, laps-held, laps-stop, laps-done, laps-halt, laps-more, laps-less}
 use Rattle.walk.proofs.Bodies.{BodyF, BodyLoop, body-start, body-end, the-body, body-whole, call-done}
 use Prim.Native.Nat.{ℕ, _<_}
 use borrow.Fn.Kinds.{In}
 use borrow.Fn.PlainCycle.{Measures, is, falls, and}
+use Rattle.tree.specs.Parts.{stmt-fits, if-other}
 use Rattle.walk.proofs.statements.body.Reads as body
 use Rattle.walk.proofs.statements.body.Kinds as body-kinds
 use Rattle.walk.proofs.statements.+body+conditional+looped+part+statement.Lts-body as body-lts
@@ -112,9 +113,9 @@ pub +body+conditional+looped+part+statement-spec : {M : Type 1} → statement M
     body.Post
     body-Inv-loop
     body-μ-loop
-    (λ c. omega (arith, stmt-fits (c .before .before .before .before .before .pre .1 .1 .0), c .before .before .before .before .before .good))
-    (λ c κs. omega (arith, stmt-fits (c .before .before .before .before .before .pre .1 .1 .0), c .before .before .before .before .before .good))
-    (λ c. omega (arith, stmt-fits (c .before .before .before .before .before .before .pre .1 .1 .0), c .before .before .before .before .before .before .good))
+    (λ c. omega (arith, stmt-fits (c .before .before .before .before .before .pre .1 .1 .0 .at), c .before .before .before .before .before .good))
+    (λ c κs. omega (arith, stmt-fits (c .before .before .before .before .before .pre .1 .1 .0 .at), c .before .before .before .before .before .good))
+    (λ c. omega (arith, stmt-fits (c .before .before .before .before .before .before .pre .1 .1 .0 .at), c .before .before .before .before .before .before .good))
     (λ c. (refl, refl, body-start _ _ _ (c .before .before .before .before .before .before .args .env) _ _ _ _ _ (c .before .before .before .before .before .before .args .p) (c .number-at .ensures)))
     (λ c κs. let w = the-body (c .before .before .before .before .before .before .before .before .before .before .pre .1 .1 .1 .0) (c .before .before .before .before .before .before .before .before .before .before .pre .1 .1 .0) in
     let l = c .before .before .before .loop .inv .2 (w .0) (w .1) in
@@ -146,17 +147,17 @@ pub +body+conditional+looped+part+statement-spec : {M : Type 1} → statement M
     )
     (conditional-at t)
     conditional.Post
-    (λ c. omega (arith, stmt-fits (c .before .before .before .before .before .pre .1 .1 .0), c .before .before .before .before .before .good))
+    (λ c. omega (arith, stmt-fits (c .before .before .before .before .before .pre .1 .1 .0 .at), c .before .before .before .before .before .good))
     (λ c κs. (record { sound = c .before .before .before .before .before .before .pre .1 .0 .sound; seen = c .before .before .before .before .before .before .pre .1 .0 .seen; small = c .before .before .before .before .before .before .pre .1 .0 .small; room = held-room (c .before .before .before .before .before .before .pre .1 .1 .1 .1) }, if-cond (c .before .before .before .before .before .before .pre .1 .1 .1 .0) (c .before .before .before .before .before .before .pre .1 .1 .0)))
-    (λ c. omega (arith, stmt-fits (c .before .before .before .before .before .before .before .pre .1 .1 .0), c .before .before .before .before .before .before .before .good))
+    (λ c. omega (arith, stmt-fits (c .before .before .before .before .before .before .before .pre .1 .1 .0 .at), c .before .before .before .before .before .before .before .good))
     (λ c κs. (_, if-cond (c .before .before .before .before .before .before .before .pre .1 .1 .1 .0) (c .before .before .before .before .before .before .before .pre .1 .1 .0) .at .stands))
     (λ c. search needs)
     (λ c κs. let d = if-inner (c .before .before .before .before .before .before .before .before .before .before .before .before .before .pre .1 .1 .1 .0) (c .before .before .before .before .before .before .before .before .before .before .before .before .before .pre .1 .1 .0) (c .before .before .before .before .before .after .ensures) in
     (omega (arith, c .before .before .before .before .before .before .before .before .before .before .before .before .before .pre .0, d .fits, d .beyond), (c .before .before .before .before .before .before .before .before .before .before .before .before .before .pre .1 .0, (d .has, passed-held _ (c .before .before .before .before .before .before .test .ensures) (if-cond (c .before .before .before .before .before .before .before .before .before .before .before .before .before .pre .1 .1 .1 .0) (c .before .before .before .before .before .before .before .before .before .before .before .before .before .pre .1 .1 .0)) (c .before .before .before .before .before .before .before .before .before .before .before .before .before .pre .1 .1 .1 .1) (c .before .before .before .t .given .1)))))
     (λ c. search needs)
-    (λ c. omega (arith, stmt-fits (c .before .before .before .before .before .before .before .before .before .before .before .pre .1 .1 .0), c .before .before .before .before .before .before .before .before .before .before .before .good))
-    (λ c. omega (arith, stmt-fits (c .before .before .before .before .before .before .before .before .before .before .before .pre .1 .1 .0), c .before .before .before .before .before .before .before .before .before .before .before .good))
-    (λ c. omega (arith, stmt-fits (c .before .before .before .before .before .before .before .before .before .before .before .before .pre .1 .1 .0), c .before .before .before .before .before .before .before .before .before .before .before .before .good))
+    (λ c. omega (arith, stmt-fits (c .before .before .before .before .before .before .before .before .before .before .before .pre .1 .1 .0 .at), c .before .before .before .before .before .before .before .before .before .before .before .good))
+    (λ c. omega (arith, stmt-fits (c .before .before .before .before .before .before .before .before .before .before .before .pre .1 .1 .0 .at), c .before .before .before .before .before .before .before .before .before .before .before .good))
+    (λ c. omega (arith, stmt-fits (c .before .before .before .before .before .before .before .before .before .before .before .before .pre .1 .1 .0 .at), c .before .before .before .before .before .before .before .before .before .before .before .before .good))
     (λ c. search needs)
     (λ c. if-short _ _ _ _ (c .before .before .before .before .before .before .before .before .before .before .before .before .before .args .env) _ _ _ (c .before .before .before .before .before .before .before .before .before .before .before .before .before .args .p) (c .before .before .before .before .before .before .before .before .before .before .before .before .before .pre .1 .1 .1 .0) (c .before .before .before .before .before .before .test .ensures) (c .before .before .before .t2 .given .1) (c .if1 .taken))
     (λ c κs. (_, if-inner (c .before .before .before .before .before .before .before .before .before .before .before .before .before .pre .1 .1 .1 .0) (c .before .before .before .before .before .before .before .before .before .before .before .before .before .pre .1 .1 .0) (c .before .before .before .before .before .after .ensures) .has .at .stands))
@@ -183,10 +184,10 @@ pub +body+conditional+looped+part+statement-spec : {M : Type 1} → statement M
     looped.Post
     looped-Inv-loop
     looped-μ-loop
-    (λ c. omega (arith, stmt-fits (c .before .before .before .before .before .pre .1 .1 .0), c .before .before .before .before .before .good))
+    (λ c. omega (arith, stmt-fits (c .before .before .before .before .before .pre .1 .1 .0 .at), c .before .before .before .before .before .good))
     (λ c κs. (_, while-cond (c .before .before .before .before .before .pre .1 .1 .1 .0) (c .before .before .before .before .before .pre .1 .1 .0) .at .stands))
     (λ c. (refl, refl, laps-start _ _ _ _ (c .before .before .before .before .before .before .args .env) _ _ _ (c .before .before .before .before .before .before .args .p)))
-    (λ c. omega (arith, stmt-fits (c .before .before .before .before .before .before .before .pre .1 .1 .0), c .before .before .before .before .before .before .before .good))
+    (λ c. omega (arith, stmt-fits (c .before .before .before .before .before .before .before .pre .1 .1 .0 .at), c .before .before .before .before .before .before .before .good))
     (λ c κs. let g = laps-held _ _ _ _ (c .before .before .before .before .before .before .before .before .args .env) _ _ _ (c .before .before .before .before .before .before .before .before .args .p) _ _ _ (c .before .loop .inv .2) (c .before .before .before .before .before .before .before .before .pre .1 .1 .1 .0) (c .before .before .before .before .before .before .before .before .pre .1 .1 .0) (c .before .before .before .before .before .before .before .before .pre .1 .1 .1 .1) in
     (record { sound = c .before .before .before .before .before .before .before .before .pre .1 .0 .sound; seen = c .before .before .before .before .before .before .before .before .pre .1 .0 .seen; small = c .before .before .before .before .before .before .before .before .pre .1 .0 .small; room = held-room g }, while-cond (c .before .before .before .before .before .before .before .before .pre .1 .1 .1 .0) (c .before .before .before .before .before .before .before .before .pre .1 .1 .0)))
     (λ c. search needs)
@@ -238,8 +239,8 @@ pub +body+conditional+looped+part+statement-spec : {M : Type 1} → statement M
     )
     (statement-at t)
     statement′.Post
-    (λ c. omega (arith, stmt-fits (c .before .before .before .before .before .pre .1 .1 .0), c .before .before .before .before .before .good))
-    (λ c. omega (arith, stmt-fits (c .before .before .before .before .before .before .pre .1 .1 .0), c .before .before .before .before .before .before .good))
+    (λ c. omega (arith, stmt-fits (c .before .before .before .before .before .pre .1 .1 .0 .at), c .before .before .before .before .before .good))
+    (λ c. omega (arith, stmt-fits (c .before .before .before .before .before .before .pre .1 .1 .0 .at), c .before .before .before .before .before .before .good))
     (λ c κs. (c .before .before .before .before .before .before .before .before .pre .1 .0, (c .before .before .before .before .before .before .before .before .pre .1 .1 .0, (c .before .if1 .taken, held-room (c .before .before .before .before .before .before .before .before .pre .1 .1 .1)))))
     (λ c. search needs)
     (λ c. λ t a lv lo w h. c .before .assign .ensures t a (length lo) _ lv lo _ w h)

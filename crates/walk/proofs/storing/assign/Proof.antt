@@ -5,10 +5,10 @@ use mathlib.Core.Path.{_∙_}
 use mir.Syntax.{w64}
 use mir.ValLaws.{toZ-ofZ}
 use Rattle.walk.proofs.Cells.{some-state}
-use Rattle.walk.proofs.Parts.{exp-fits}
 use Rattle.walk.proofs.Exps.{went}
-use Rattle.walk.proofs.Stores.{has-target, has-value, assign-stop, assign-on}
+use Rattle.walk.proofs.Stores.{has-target, assign-stop, assign-on}
 use borrow.Author.Needs.{needs}
+use Rattle.tree.specs.Parts.{exp-fits, has-assigned}
 use Rattle.walk.proofs.storing.assign.Statement.{statement}
 use Rattle.walk.proofs.storing.assign.Tie as tie
 use Rattle.walk.proofs.storing.assign.Reads as reads
@@ -20,11 +20,11 @@ use Rattle.walk.proofs.storing.store.Reads as store-reads
 
 -- src/storing.rt:69:36
 add-exp : tie.Need-add-exp
-add-exp c = omega (arith, exp-fits (has-value (c .before .before .before .pre .1 .1 .0) (c .before .before .before .pre .1 .0) .at), c .before .before .before .good)
+add-exp c = omega (arith, exp-fits (has-assigned (c .before .before .before .pre .1 .1 .0) (c .before .before .before .pre .1 .0) .at), c .before .before .before .good)
 
 -- src/storing.rt:69:9
 exp-requires : tie.Need-exp-requires
-exp-requires c κs = (record { sound = c .before .before .before .before .pre .0 .sound; seen = c .before .before .before .before .pre .0 .seen; small = c .before .before .before .before .pre .0 .small; room = c .before .before .before .before .pre .1 .1 .1 }, has-value (c .before .before .before .before .pre .1 .1 .0) (c .before .before .before .before .pre .1 .0))
+exp-requires c κs = (record { sound = c .before .before .before .before .pre .0 .sound; seen = c .before .before .before .before .pre .0 .seen; small = c .before .before .before .before .pre .0 .small; room = c .before .before .before .before .pre .1 .1 .1 }, has-assigned (c .before .before .before .before .pre .1 .1 .0) (c .before .before .before .before .pre .1 .0))
 
 -- src/storing.rt:70:23
 enum-known-r : tie.Need-enum-known-r
@@ -48,7 +48,7 @@ returns c = assign-stop _ _ _ _ (c .before .before .before .before .before .befo
 
 -- src/storing.rt:73:17
 add-store : tie.Need-add-store
-add-store c = omega (arith, exp-fits (has-value (c .before .before .before .before .before .before .before .before .pre .1 .1 .0) (c .before .before .before .before .before .before .before .before .pre .1 .0) .at), c .before .before .before .before .before .before .before .before .good)
+add-store c = omega (arith, exp-fits (has-assigned (c .before .before .before .before .before .before .before .before .pre .1 .1 .0) (c .before .before .before .before .before .before .before .before .pre .1 .0) .at), c .before .before .before .before .before .before .before .before .good)
 
 -- src/storing.rt:73:45
 at-clock-requires : tie.Need-at-clock-requires
@@ -58,7 +58,7 @@ at-clock-requires c κs = search needs
 store-requires : tie.Need-store-requires
 store-requires c κs =
     let o = some-state _ (c .before .before .before .before .before .before .before .before .before .before .args .env) (c .before .before .before .before .before .before .before .before .before .before .args .p .clock) (c .before .before .before .before .before .before .before .before .before .before .pre .1 .1 .1) in
-    (c .before .before .before .before .before .before .before .before .before .before .pre .0, (has-target (c .before .before .before .before .before .before .before .before .before .before .pre .1 .1 .0) (c .before .before .before .before .before .before .before .before .before .before .pre .1 .0), (c .before .before .before .before .before .before .before .before .before .before .pre .1 .1 .1, rw (c .before .at-clock .ensures) (omega (arith, went (c .before .before .before .r .given .1) (c .before .before .before .before .before .exp .ensures _ (has-value (c .before .before .before .before .before .before .before .before .before .before .pre .1 .1 .0) (c .before .before .before .before .before .before .before .before .before .before .pre .1 .0) .at) (o .0) (o .1)) .top)))))
+    (c .before .before .before .before .before .before .before .before .before .before .pre .0, (has-target (c .before .before .before .before .before .before .before .before .before .before .pre .1 .1 .0) (c .before .before .before .before .before .before .before .before .before .before .pre .1 .0), (c .before .before .before .before .before .before .before .before .before .before .pre .1 .1 .1, rw (c .before .at-clock .ensures) (omega (arith, went (c .before .before .before .r .given .1) (c .before .before .before .before .before .exp .ensures _ (has-assigned (c .before .before .before .before .before .before .before .before .before .before .pre .1 .1 .0) (c .before .before .before .before .before .before .before .before .before .before .pre .1 .0) .at) (o .0) (o .1)) .top)))))
 
 -- src/storing.rt:62:1
 same-length-2 : tie.Need-same-length-2

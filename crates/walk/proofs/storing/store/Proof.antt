@@ -3,8 +3,9 @@ use borrow.Author.Needs.{needs}
 use native.Mathlib.Omega.{arith}
 use mir.Syntax.{w64}
 use mir.ValLaws.{toZ-ofZ}
-use Rattle.walk.proofs.Stores.{name-fits, name-lies, store-spent, store-on}
+use Rattle.walk.proofs.Stores.{store-spent, store-on}
 use borrow.Author.Needs.{needs}
+use Rattle.tree.specs.Parts.{name-in}
 use Rattle.walk.proofs.storing.store.Statement.{statement}
 use Rattle.walk.proofs.storing.store.Tie as tie
 use Rattle.walk.proofs.storing.store.Reads as reads
@@ -19,31 +20,31 @@ returns c = λ n a input lv lo out w h. store-spent _ _ _ _ _ n a h (c .if1 .tak
 
 -- src/storing.rt:56:42
 add-place : tie.Need-add-place
-add-place c = omega (arith, name-fits (c .before .before .before .before .before .before .pre .1 .0), c .before .before .before .before .before .before .good)
+add-place c = omega (arith, name-in (c .before .before .before .before .before .before .pre .1 .0 .at) .1, c .before .before .before .before .before .before .good)
 
 -- src/storing.rt:56:37
 mul-place : tie.Need-mul-place
-mul-place c = omega (arith, name-fits (c .before .before .before .before .before .before .pre .1 .0), c .before .before .before .before .before .before .good)
+mul-place c = omega (arith, name-in (c .before .before .before .before .before .before .pre .1 .0 .at) .1, c .before .before .before .before .before .before .good)
 
 -- src/storing.rt:56:37
 shared-slice-read-place : tie.Need-shared-slice-read-place
-shared-slice-read-place c = omega (arith, name-fits (c .before .before .before .before .before .before .before .pre .1 .0), c .before .before .before .before .before .before .before .good)
+shared-slice-read-place c = omega (arith, name-in (c .before .before .before .before .before .before .before .pre .1 .0 .at) .1, c .before .before .before .before .before .before .before .good)
 
 -- src/storing.rt:56:55
 add-place-2 : tie.Need-add-place-2
-add-place-2 c = omega (arith, name-fits (c .before .before .before .before .before .before .before .pre .1 .0), c .before .before .before .before .before .before .before .good)
+add-place-2 c = omega (arith, name-in (c .before .before .before .before .before .before .before .pre .1 .0 .at) .1, c .before .before .before .before .before .before .before .good)
 
 -- src/storing.rt:56:50
 mul-place-2 : tie.Need-mul-place-2
-mul-place-2 c = omega (arith, name-fits (c .before .before .before .before .before .before .before .pre .1 .0), c .before .before .before .before .before .before .before .good)
+mul-place-2 c = omega (arith, name-in (c .before .before .before .before .before .before .before .pre .1 .0 .at) .1, c .before .before .before .before .before .before .before .good)
 
 -- src/storing.rt:56:50
 shared-slice-read-place-2 : tie.Need-shared-slice-read-place-2
-shared-slice-read-place-2 c = omega (arith, name-fits (c .before .before .before .before .before .before .before .before .pre .1 .0), c .before .before .before .before .before .before .before .before .good)
+shared-slice-read-place-2 c = omega (arith, name-in (c .before .before .before .before .before .before .before .before .pre .1 .0 .at) .1, c .before .before .before .before .before .before .before .before .good)
 
 -- src/storing.rt:56:9
 place-requires : tie.Need-place-requires
-place-requires c κs = (c .before .before .before .before .before .before .before .before .pre .0, name-lies (c .before .before .before .before .before .before .before .before .pre .1 .0))
+place-requires c κs = (c .before .before .before .before .before .before .before .before .pre .0, name-in (c .before .before .before .before .before .before .before .before .pre .1 .0 .at) .0)
 
 -- src/storing.rt:57:5
 put-variable-requires : tie.Need-put-variable-requires

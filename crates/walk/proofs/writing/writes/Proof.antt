@@ -5,9 +5,10 @@ use mathlib.Core.Path.{_≡_, refl, _∙_}
 use mathlib.Core.List.{[]}
 use Prim.Native.Nat.{_-_}
 use lib.ListN.{length}
+use Rattle.tree.specs.Parts.{stmt-fits}
 use Rattle.walk.specs.Meets.{rowsOf}
 use Rattle.walk.proofs.Members.{along-next, along-halt, along-more, along-done}
-use Rattle.walk.proofs.Listed.{stmt-fits, WritesF, WritesLoop, writes-start, writes-end, the-write, writes-whole}
+use Rattle.walk.proofs.Listed.{WritesF, WritesLoop, writes-start, writes-end, the-write, writes-whole}
 use Rattle.walk.proofs.writing.writes.Statement.{statement}
 use Rattle.walk.proofs.writing.writes.Tie as tie
 use Rattle.walk.proofs.writing.writes.Reads as reads
@@ -25,15 +26,15 @@ abbrev μ-loop : tie.MeasureT-loop
 
 -- src/writing.rt:91:39
 add-number-at : tie.Need-add-number-at Inv-loop μ-loop
-add-number-at c = omega (arith, stmt-fits (c .before .before .before .before .pre .1 .0), c .before .before .before .before .good)
+add-number-at c = omega (arith, stmt-fits (c .before .before .before .before .pre .1 .0 .at), c .before .before .before .before .good)
 
 -- src/writing.rt:91:9
 number-at-requires : tie.Need-number-at-requires Inv-loop μ-loop
-number-at-requires c κs = omega (arith, stmt-fits (c .before .before .before .before .pre .1 .0), c .before .before .before .before .good)
+number-at-requires c κs = omega (arith, stmt-fits (c .before .before .before .before .pre .1 .0 .at), c .before .before .before .before .good)
 
 -- src/writing.rt:93:17
 add-j : tie.Need-add-j Inv-loop μ-loop
-add-j c = omega (arith, stmt-fits (c .before .before .before .before .before .pre .1 .0), c .before .before .before .before .before .good)
+add-j c = omega (arith, stmt-fits (c .before .before .before .before .before .pre .1 .0 .at), c .before .before .before .before .before .good)
 
 -- src/writing.rt:95:5
 loop-holds : tie.Need-loop-holds Inv-loop μ-loop
