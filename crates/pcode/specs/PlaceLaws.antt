@@ -1,12 +1,12 @@
 -- Laws of code places that are lent in three parts: how many there are, and which instruction stands where.
 use mathlib.Core.Path.{_≡_, refl, sym, ap, _∙_}
-use mathlib.Core.List.{List, [], _∷_, map}
-use Prim.Native.Nat.{ℕ, zero, suc, _≤_, _<_, min}
+use mathlib.Core.List.{List, [], _∷_}
+use Prim.Native.Nat.{ℕ, zero, suc, _<_, min}
 use native.Mathlib.Nat.{zero-min, min-zero, suc-min-suc}
 use native.Mathlib.Omega.{arith}
 use lib.IntN.{ℤ, pos}
 use lib.ListN.{length, getD, length-map}
-use Rattle.pcode.specs.Code.{Place, ins, nil, kindOf, instrIn, placesIn, Code, instrsIn}
+use Rattle.pcode.specs.Code.{ins, nil, kindOf, instrIn, placesIn, instrsIn}
 
 -- as many as the shortest part has
 pub length-places : (ks : List ℤ) (ls : List ℕ) (os : List ℤ) → length (placesIn ks ls os) ≡ min (length ks) (min (length ls) (length os))

@@ -6,7 +6,7 @@ use native.Mathlib.Omega.{arith as linear}
 use lib.IntN.{ℤ, pos}
 use lib.ListN.{length, getD}
 use Rattle.numbers.specs.Arithmetic.{Arith, arith, Compare, Val, oddness}
-use Rattle.tree.specs.Tree.{Exp, chain, brackets, Chain, end, link, Cond, isOdd, rel}
+use Rattle.tree.specs.Tree.{Exp, chain, Chain, end, link, Cond, isOdd, rel}
 use Rattle.tree.specs.Layout.{negKind, chainKind, bracketsKind, oddKind, literal, member, nameNo, numberNo, nodeNo, count, enc, encs, Stands}
 use Rattle.tree.specs.Nodes.{expNode, chainNodes, arithNo, compareNo}
 use Rattle.tree.specs.Named.{NamedExp, NamedChain}

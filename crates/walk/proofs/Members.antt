@@ -5,7 +5,7 @@ use Prim.Native.Nat.{ℕ, _+_, _≤_, _<_}
 use native.Mathlib.Omega.{arith}
 use lib.IntN.{ℤ}
 use lib.ListN.{length}
-use Rattle.tree.specs.Layout.{Node, member, count, enc, encs, Stands}
+use Rattle.tree.specs.Layout.{Node, count, enc, encs, Stands}
 use Rattle.tree.specs.Nodes.{listNodes}
 use Rattle.tree.specs.Named.{Each}
 use Rattle.tree.specs.Reading.{two-at, After}

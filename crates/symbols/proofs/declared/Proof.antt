@@ -1,7 +1,6 @@
 -- The proof of `declared`.
 use borrow.Author.Needs.{needs}
 use native.Mathlib.Omega.{arith}
-use Prim.Native.Nat.{_-_}
 use Rattle.symbols.specs.Table.{part}
 use Rattle.symbols.specs.Chains.{positive}
 use Rattle.symbols.proofs.Search.{asked, legible, Looked, look-start, look-end, look-hit, look-more}

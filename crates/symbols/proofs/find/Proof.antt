@@ -1,7 +1,6 @@
 -- The proof of `find`.
 use borrow.Author.Needs.{needs}
 use native.Mathlib.Omega.{arith}
-use Prim.Native.Nat.{_-_}
 use Rattle.symbols.specs.Table.{part}
 use Rattle.symbols.specs.Chains.{positive}
 use Rattle.symbols.proofs.Search.{asked, legible, Searched, search-start, search-end, search-hit, search-more}

@@ -1,6 +1,5 @@
 -- The proof of `first_row`.
 use native.Mathlib.Omega.{arith}
-use Prim.Native.Nat.{_-_}
 use Rattle.symbols.specs.Table.{part}
 use Rattle.symbols.specs.Chains.{positive}
 use Rattle.symbols.proofs.Search.{legible, Unlike, first-start, first-end, first-hit, first-more}

@@ -1,6 +1,6 @@
 -- `parts::is_same` is safe and ends.
 use mathlib.Core.Path.{_≡_}
-use Prim.Native.Nat.{_+_, _-_, _≤_}
+use Prim.Native.Nat.{_-_, _≤_}
 use native.Mathlib.Omega.{arith}
 use lib.ListN.{length}
 use Rattle.protocol.proofs.parts.is_same.Statement.{statement}

@@ -1,6 +1,5 @@
 -- `parts::part` is safe.
-use mathlib.Core.Path.{_≡_, sym}
-use Prim.Native.Nat.{_≤_}
+use mathlib.Core.Path.{sym}
 use lib.Seq.{length-take-le}
 use borrow.Author.Needs.{needs}
 use Rattle.protocol.proofs.parts.part.Statement.{statement}

@@ -1,5 +1,5 @@
 -- `parts::parts` is safe and ends: there are no more separators than bytes.
-use Prim.Native.Nat.{_+_, _-_, _≤_}
+use Prim.Native.Nat.{_-_, _≤_}
 use native.Mathlib.Omega.{arith}
 use lib.ListN.{length}
 use Rattle.protocol.proofs.parts.parts.Statement.{statement}

@@ -1,5 +1,4 @@
 -- `print::put_number` meets its contract: what was written ends in two spaces.
-use mathlib.Core.Path.{_≡_}
 use Prim.Native.Nat.{_+_}
 use native.Mathlib.Omega.{arith}
 use borrow.Author.Needs.{needs}

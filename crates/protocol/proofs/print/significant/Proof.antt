@@ -1,5 +1,5 @@
 -- `print::significant` meets its contract.
-use Prim.Native.Nat.{_+_, _-_, _≤_}
+use Prim.Native.Nat.{_≤_}
 use native.Mathlib.Omega.{arith}
 use lib.ListN.{length}
 use Rattle.protocol.proofs.print.significant.Statement.{statement}

@@ -1,9 +1,9 @@
 -- `read::read_code` meets its contract.
 use mathlib.Core.Path.{_≡_, sym}
-use Prim.Native.Nat.{_+_, _-_, _≤_}
+use Prim.Native.Nat.{_-_, _≤_}
 use native.Mathlib.Omega.{arith}
 use borrow.Author.Needs.{needs}
-use lib.ListN.{length, drop, length-drop, length-set}
+use lib.ListN.{length, length-drop, length-set}
 use lib.Seq.{length-take-le}
 use Rattle.numbers.proofs.Scans.{rest-of}
 use Rattle.protocol.proofs.read.read_code.Statement.{statement}

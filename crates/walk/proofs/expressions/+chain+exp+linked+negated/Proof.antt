@@ -1,7 +1,7 @@
 -- The proof of the cycle of calls of expressions. The measure is three times the numbers that are left from the node on, and the member's rank.
 use borrow.Author.Needs.{needs, sfits-of}
 use native.Mathlib.Omega.{arith as linear}
-use mathlib.Core.Path.{_≡_, refl, sym, ap, _∙_}
+use mathlib.Core.Path.{refl}
 use Prim.Native.Nat.{_+_, _*_, _-_}
 use lib.ListN.{length}
 use mir.Syntax.{w64}

@@ -2,7 +2,7 @@
 use borrow.Author.Needs.{needs}
 use native.Mathlib.Omega.{arith}
 use mathlib.Core.Path.{_≡_}
-use Rattle.numbers.specs.Arithmetic.{Compare, compare, equal, unequal, less, atLeast, greater, atMost}
+use Rattle.numbers.specs.Arithmetic.{compare, equal, unequal, less, atLeast, greater, atMost}
 use Rattle.numbers.proofs.Bits.{plain-2}
 use Rattle.walk.proofs.Operators.{by-compare}
 use borrow.Author.Needs.{needs}

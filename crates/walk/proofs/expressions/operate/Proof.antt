@@ -2,7 +2,7 @@
 use borrow.Author.Needs.{needs}
 use native.Mathlib.Omega.{arith as linear}
 use mathlib.Core.Path.{_≡_}
-use Rattle.numbers.specs.Arithmetic.{Arith, arith, add, sub, mul, div}
+use Rattle.numbers.specs.Arithmetic.{arith, add, sub, mul, div}
 use Rattle.numbers.specs.Answers.{valOf}
 use Rattle.numbers.proofs.Bits.{plain-2}
 use Rattle.walk.proofs.Operators.{by-arith}

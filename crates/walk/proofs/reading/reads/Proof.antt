@@ -5,7 +5,6 @@ use mathlib.Core.Path.{_≡_, refl, _∙_}
 use Prim.Native.Nat.{_-_}
 use lib.ListN.{length}
 use Rattle.tree.specs.Parts.{stmt-fits}
-use Rattle.walk.specs.Walk.{walkReads}
 use Rattle.walk.specs.Meets.{rowsOf}
 use Rattle.walk.proofs.Members.{along-held, along-next, along-halt, along-more, along-done}
 use Rattle.walk.proofs.Listed.{held-room, ReadsF, ReadsLoop, reads-start, reads-end, the-read, reads-whole}
