@@ -2,12 +2,12 @@
 use mathlib.Core.Path.{_≡_, refl, sym, ap, _∙_}
 use mathlib.Core.List.{List}
 use mathlib.Core.Option.{none, some}
-use Prim.Native.Nat.{ℕ, suc, _+_, _-_, _≤_, _<_}
+use Prim.Native.Nat.{ℕ, suc, _+_, _≤_, _<_}
 use native.Mathlib.Omega.{arith}
 use lib.IntN.{ℤ}
-use lib.ListN.{length, take, drop, length-drop, drop-of-length-le}
+use lib.ListN.{length, drop, length-drop, drop-of-length-le}
 use lib.Seq.{length-take-le, drop-drop}
-use Rattle.numbers.specs.Bytes.{span, isBlank}
+use Rattle.numbers.specs.Bytes.{span}
 use Rattle.numbers.specs.Line.{notNewline, line, afterLine, field, valueOf, entry}
 use Rattle.numbers.specs.Answers.{lineEntry, Took}
 use Rattle.numbers.proofs.Scans.{span-le}

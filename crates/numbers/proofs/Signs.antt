@@ -1,12 +1,12 @@
 -- Laws of i64 arithmetic: when a sum, a product and a quotient are within i64.
 use mathlib.Core.Path.{_≡_, refl, sym, ap, _∙_}
 use mathlib.Core.Bool.{Bool, true, false, not, Bool·beq}
-use Prim.Native.Nat.{ℕ, zero, suc, _+_, _-_, _*_, _/_, _%_, _≤_, _<_, zero-le}
-use native.Mathlib.Nat.{mul-le-mul, div-le-self, div-lt-iff-lt-mul, le-div-iff-mul-le, zero-mul}
+use Prim.Native.Nat.{ℕ, zero, suc, _+_, _-_, _*_, _/_, _≤_, _<_, zero-le}
+use native.Mathlib.Nat.{mul-le-mul, div-le-self, div-lt-iff-lt-mul, le-div-iff-mul-le}
 use native.Mathlib.Omega.{arith}
 use lib.IntN.{ℤ, pos, negsuc, negℤ, natAbs, subℕ, _+ℤ_, _-ℤ_, _*ℤ_}
-use lib.Signed.{mag, ltZ, leZ, quotZ, remZ, mag-rem}
-use lib.Dec.{ltb, leb, eqb}
+use lib.Signed.{mag, ltZ, leZ, quotZ}
+use lib.Dec.{ltb, leb}
 use borrow.Author.Tests.{le-ltb, lt-ltb, le-leb, lt-leb, ltb-true, ltb-false, leb-true, leb-false, ne-eqb}
 use mir.Syntax.{w64}
 use mir.Val.{SFits}

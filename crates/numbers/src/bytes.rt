@@ -1,6 +1,6 @@
 // The classes of bytes that 01 names.
 ghost use mathlib.Core.Path.{_≡_};
-ghost use Rattle.numbers.specs.Bytes.{isBlank, isDigit, isLetter, isWordByte, isAscii};
+ghost use Rattle.numbers.specs.Bytes.{isBlank, isDigit, isLetter, isWordByte};
 
 // "Blanks are bytes 9 to 13 and 32"
 pub fn is_blank(b: u8) -> bool
