@@ -1,7 +1,8 @@
 // The code that was drafted, handed out to the lent code places.
+use crate::rooms::CODE;
 use crate::rooms::fill_kinds;
 use crate::rooms::fill_levels;
-use crate::rooms::fill_operands;
+use numbers::room::clear_i64;
 ghost use mathlib.Core.Path.{_≡_};
 ghost use mathlib.Core.List.{List};
 ghost use Prim.Native.Nat.{_≤_};
@@ -72,5 +73,5 @@ pub fn hand_out(draft: &[u32], n: usize, kinds: &mut [i8], levels: &mut [u16], o
     hand_levels(draft, n, levels);
     fill_levels(levels, n);
     hand_operands(draft, n, operands);
-    fill_operands(operands, n);
+    clear_i64(operands, n, CODE);
 }

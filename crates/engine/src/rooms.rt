@@ -3,9 +3,9 @@ use numbers::room::clear;
 ghost use mathlib.Core.Path.{_≡_};
 ghost use mathlib.Core.List.{_++_};
 ghost use Prim.Native.Nat.{_-_, _≤_};
-ghost use lib.IntN.{pos, negsuc};
+ghost use lib.IntN.{negsuc};
 ghost use lib.ListN.{length, take, replicate};
-ghost use Rattle.numbers.specs.Limits.{maxCode, maxVariables, treePlaces, tablePlaces, draftPlaces};
+ghost use Rattle.numbers.specs.Limits.{maxCode, treePlaces, tablePlaces, draftPlaces};
 ghost use Rattle.numbers.specs.Lent.{onto};
 
 // The code places that compile fills.
@@ -57,31 +57,6 @@ pub fn fill_levels(levels: &mut [u16], from: usize)
     let mut k = from;
     while k < CODE {
         levels[k] = 0;
-        k += 1;
-    }
-}
-
-// Operand 0 in the code places from `from` on.
-pub fn fill_operands(operands: &mut [i64], from: usize)
-    requires { ⌜ maxCode ≤ length (now operands) ⌝ }
-    requires { ⌜ from ≤ maxCode ⌝ }
-    ensures { λ _. ⌜ now (operands .exit) ≡ onto (now (operands .entry)) (take from (now (operands .entry)) ++ replicate (maxCode - from) (pos 0)) ⌝ }
-{
-    let mut k = from;
-    while k < CODE {
-        operands[k] = 0;
-        k += 1;
-    }
-}
-
-// Zero in all places for variables.
-pub fn clear_variables(vars: &mut [i64])
-    requires { ⌜ maxVariables ≤ length (now vars) ⌝ }
-    ensures { λ _. ⌜ now (vars .exit) ≡ onto (now (vars .entry)) (replicate maxVariables (pos 0)) ⌝ }
-{
-    let mut k = 0;
-    while k < VARIABLES {
-        vars[k] = 0;
         k += 1;
     }
 }

@@ -4,9 +4,9 @@ use crate::entries::ROOM_TOO_SMALL;
 use crate::entries::holds_work;
 use crate::rooms::TABLE;
 use crate::rooms::VARIABLES;
-use crate::rooms::clear_variables;
 use crate::rooms::wipe;
 use machine::Ended;
+use numbers::room::clear_i64;
 use translator::Translated;
 use walk::progress::Outcome;
 use walk::progress::Progress;
@@ -111,7 +111,7 @@ pub fn walk(
     if !holds_work(tree.len(), table.len(), draft.len()) {
         return refused(ROOM_TOO_SMALL);
     }
-    clear_variables(vars);
+    clear_i64(vars, 0, VARIABLES);
     let t = draft_text(text, tree, table, draft);
     let e = walk_drafted(t, text, tree, table, input, budget, vars, out);
     wipe(tree, table, draft);

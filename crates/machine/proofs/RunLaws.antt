@@ -1,17 +1,17 @@
 -- Laws of runs: a step is counted once it is made, a pause is on the way of the run, and its end is the outcome.
 use mathlib.Core.Path.{_≡_, refl, sym, ap, _∙_}
-use mathlib.Core.List.{List, [], _∷_, _++_, append-nil}
+use mathlib.Core.List.{List, _++_}
 use Prim.Native.Nat.{ℕ, zero, suc, _+_, _-_, _≤_, _<_, min}
 use native.Mathlib.Nat.{min-le-left, min-le-right}
 use native.Mathlib.Omega.{arith}
 use lib.IntN.{ℤ, pos}
-use native.Mathlib.Numerals.{add-one}
-use lib.ListN.{length, take, drop, set, replicate, take-append-drop, length-replicate}
-use lib.Seq.{length-take-le, take-at, drop-at, drop-drop, drop-length}
+use lib.ListN.{length, take, drop, replicate, take-append-drop, length-replicate}
+use lib.Seq.{length-take-le, take-at, drop-at, drop-drop}
 use borrow.Author.Tests.{le-leb, lt-leb}
 use Rattle.numbers.specs.Panel.{done, tooManyInstructions, budgetSpent, roomTooSmall}
 use Rattle.numbers.specs.Limits.{maxCode, maxCells}
-use Rattle.numbers.specs.Lent.{onto}
+use Rattle.numbers.specs.Lent.{onto, filling}
+use Rattle.numbers.proofs.Putting.{filling-whole}
 use Rattle.pcode.specs.Code.{Instr, Code, placesIn, instrsIn}
 use Rattle.pcode.specs.PlaceLaws.{length-places, length-instrs}
 use Rattle.machine.specs.declared.frames.Frame.{Frame}
@@ -103,19 +103,6 @@ module _ (code : List Instr) (budget : ℕ) (f₀ : Frame) (cs₀ : List ℤ) (l
         let t = rw (d .leaves .0) at (d .tells) in
         record { tells = λ m. rw (d .leaves .0) (q room m ∙ run-left code room left (at f cs m) (talkOf code room (Read i) (at f cs m)) p (t m)); less = omega arith; rests = (record { pc = d .leaves .1; top = s }, (d .leaves .2, d .leaves .3)) }
 
--- cells that are zeroed from the first on
-module _ {A : Type 0} where
-  fill-suc : (n : ℕ) (v : A) (d : List A) → n < length d → set (replicate n v ++ drop n d) n v ≡ replicate (suc n) v ++ drop (suc n) d
-  fill-suc n v [] l = absurd (omega arith)
-  fill-suc zero v (x ∷ d) l = refl
-  fill-suc (suc n) v (x ∷ d) l = ap (λ (t : List A). v ∷ t) (fill-suc n v d (omega arith))
-
-  pub fill-more : (n : ℕ) (v : A) (d : List A) → n < length d → set (replicate n v ++ drop n d) n v ≡ replicate (n + 1) v ++ drop (n + 1) d
-  fill-more n v d l = rw (add-one n) (fill-suc n v d l)
-
-  pub fill-all : (n : ℕ) (v : A) (d : List A) → n ≡ length d → replicate n v ++ drop n d ≡ replicate (length d) v
-  fill-all n v d e = rw (e, drop-length d, append-nil (replicate (length d) v))
-
 -- what is dropped later is the same
 drop-later : {A : Type 0} (a b : ℕ) (x y : List A) → a ≤ b → drop a x ≡ drop a y → drop b x ≡ drop b y
 drop-later a b x y h e =
@@ -189,27 +176,23 @@ listed ks ls os e h =
 unfoldable pub zeros : List ℤ
 zeros = replicate maxCells (pos 0)
 
-module _ (cells : List ℤ) (h : maxCells ≤ length cells) where
-  pub first-length : length (take maxCells cells) ≡ maxCells
-  first-length = length-take-le maxCells cells h
+zeros-length : length zeros ≡ maxCells
+unfolding zeros
+zeros-length = length-replicate maxCells (pos 0)
 
-  pub cleared : {z : List ℤ} → z ≡ replicate (length (take maxCells cells)) (pos 0) → z ≡ zeros
+module _ (cells : List ℤ) {cs : List ℤ} (e : cs ≡ onto cells (filling 0 maxCells (pos 0) cells)) where
+  pub zeroed : cs ≡ zeros ++ drop maxCells cells
   unfolding zeros
-  cleared e = e ∙ ap (λ (n : ℕ). replicate n (pos 0)) first-length
+  zeroed = filling-whole maxCells (pos 0) cells e ∙ ap (λ (n : ℕ). zeros ++ drop n cells) zeros-length
 
-  module _ {z : List ℤ} (e : z ≡ zeros) where
-    zeroed-length : length z ≡ maxCells
-    unfolding zeros
-    zeroed-length = ap length e ∙ length-replicate maxCells (pos 0)
+  pub zeroed-first : take maxCells cs ≡ zeros
+  zeroed-first = ap (take maxCells) zeroed ∙ take-at zeros (drop maxCells cells) maxCells zeros-length
 
-    pub zeroed-first : take maxCells (z ++ drop maxCells cells) ≡ zeros
-    zeroed-first = take-at z (drop maxCells cells) maxCells zeroed-length ∙ e
+  pub zeroed-size : length (take maxCells cs) ≡ maxCells
+  zeroed-size = ap length zeroed-first ∙ zeros-length
 
-    pub zeroed-size : length (take maxCells (z ++ drop maxCells cells)) ≡ maxCells
-    zeroed-size = ap length (take-at z (drop maxCells cells) maxCells zeroed-length) ∙ zeroed-length
-
-    pub zeroed-rest : drop maxCells (z ++ drop maxCells cells) ≡ drop maxCells cells
-    zeroed-rest = drop-at z (drop maxCells cells) maxCells zeroed-length
+  pub zeroed-rest : drop maxCells cs ≡ drop maxCells cells
+  zeroed-rest = ap (drop maxCells) zeroed ∙ drop-at zeros (drop maxCells cells) maxCells zeros-length
 
 -- the public outcome
 module _ (code : Code) (input : List ℕ) (budget : ℕ) (out : List ℕ) (cells : List ℤ) where

@@ -11,11 +11,11 @@ use crate::talk::Talk;
 use crate::talk::Talked;
 use crate::talk::Tape;
 use crate::talk::exchange;
+use numbers::room::clear_i64;
 use pcode::code_length;
 ghost use mathlib.Core.Path.{_≡_};
 ghost use Prim.Native.Nat.{ℕ};
-ghost use lib.IntN.{pos};
-ghost use lib.ListN.{length, replicate};
+ghost use lib.ListN.{length};
 ghost use Rattle.numbers.specs.Limits.{maxCells};
 ghost use Rattle.machine.specs.Outcome.{runOutcome};
 ghost use Rattle.machine.specs.Frames.{Sound};
@@ -133,16 +133,6 @@ fn counted(
     }
 }
 
-fn zero(cells: &mut [i64])
-    ensures { λ _. ⌜ now (cells .exit) ≡ replicate (length (now (cells .entry))) (pos 0) ⌝ }
-{
-    let mut i = 0;
-    while i < cells.len() {
-        cells[i] = 0;
-        i = i + 1;
-    }
-}
-
 // A run that was not begun.
 fn refused(number: u8) -> Ended
     ensures { λ r. ⌜ (r .number ≡ number) × (r .«out_len» ≡ 0) × (r .lines ≡ 0) × (r .steps ≡ 0) ⌝ }
@@ -170,7 +160,7 @@ pub fn run(
     if cells.len() < CELLS {
         return refused(ROOM_TOO_SMALL);
     }
-    zero(&mut cells[..CELLS]);
+    clear_i64(cells, 0, CELLS);
     let places = code_length(kinds, levels, operands);
     if MAX_CODE < places {
         return refused(TOO_MANY_INSTRUCTIONS);

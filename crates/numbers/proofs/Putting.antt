@@ -69,5 +69,5 @@ module _ {A : Type 0} where
   filling-all from to z lent {xs} {k} h l m p = put-all p (omega (arith, filling-length from to z lent h l))
 
   -- from the first place on
-  pub filling-whole : (to : ℕ) (z : A) (lent : List A) → filling 0 to z lent ≡ replicate to z
-  filling-whole to z lent = let e : to - 0 ≡ to = omega arith in ap (λ (n : ℕ). replicate n z) e
+  pub filling-whole : (to : ℕ) (z : A) (lent : List A) {xs : List A} → xs ≡ onto lent (filling 0 to z lent) → xs ≡ onto lent (replicate to z)
+  filling-whole to z lent p = let e : to - 0 ≡ to = omega arith in p ∙ ap (λ (n : ℕ). onto lent (replicate n z)) e

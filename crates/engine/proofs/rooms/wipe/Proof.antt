@@ -1,46 +1,30 @@
 -- The proof of `wipe`.
 use borrow.Author.Needs.{needs}
-use mathlib.Core.Path.{ap, _∙_}
 use native.Mathlib.Omega.{arith}
-use Rattle.numbers.specs.Lent.{onto}
 use Rattle.numbers.proofs.Putting.{filling-whole}
-use borrow.Author.Needs.{needs}
 use Rattle.engine.proofs.rooms.wipe.Statement.{statement}
 use Rattle.engine.proofs.rooms.wipe.Tie as tie
-use Rattle.engine.proofs.rooms.wipe.Reads as reads
-use Rattle.engine.proofs.rooms.wipe.Lts as lts
-use Rattle.numbers.proofs.room.clear.Reads as clear-reads
 
--- src/rooms.rt:33:5
 clear-requires : tie.Need-clear-requires
 clear-requires c κs = (omega arith, c .before .before .before .before .pre .0)
 
--- src/rooms.rt:34:5
 clear-requires-2 : tie.Need-clear-requires-2
 clear-requires-2 c κs = (omega arith, c .before .before .before .before .before .before .before .before .pre .1 .0)
 
--- src/rooms.rt:35:5
 clear-requires-3 : tie.Need-clear-requires-3
 clear-requires-3 c κs = (omega arith, c .before .before .before .before .before .before .before .before .before .before .before .before .pre .1 .1)
 
--- src/rooms.rt:25:1
 same-length : tie.Need-same-length
 same-length c = search needs
 
--- src/rooms.rt:25:1
 same-length-2 : tie.Need-same-length-2
 same-length-2 c = search needs
 
--- src/rooms.rt:25:1
 same-length-3 : tie.Need-same-length-3
 same-length-3 c = search needs
 
--- src/rooms.rt:25:1
 returns : tie.Need-returns
-returns c = (
-  c .before .before .before .before .before .before .before .before .before .before .clear .ensures ∙ ap (onto (c .before .before .before .before .before .before .before .before .before .before .before .before .before .before .before .args .tree .now)) (filling-whole 98400 0 (c .before .before .before .before .before .before .before .before .before .before .before .before .before .before .before .args .tree .now)),
-  (c .before .before .before .before .before .before .clear2 .ensures ∙ ap (onto (c .before .before .before .before .before .before .before .before .before .before .before .before .before .before .before .args .table .now)) (filling-whole 6144 0 (c .before .before .before .before .before .before .before .before .before .before .before .before .before .before .before .args .table .now)), c .before .before .clear3 .ensures ∙ ap (onto (c .before .before .before .before .before .before .before .before .before .before .before .before .before .before .before .args .draft .now)) (filling-whole 16384 0 (c .before .before .before .before .before .before .before .before .before .before .before .before .before .before .before .args .draft .now))),
-)
+returns c = (filling-whole 98400 0 (c .before .before .before .before .before .before .before .before .before .before .before .before .before .before .before .args .tree .now) (c .before .before .before .before .before .before .before .before .before .before .clear .ensures), (filling-whole 6144 0 (c .before .before .before .before .before .before .before .before .before .before .before .before .before .before .before .args .table .now) (c .before .before .before .before .before .before .clear2 .ensures), filling-whole 16384 0 (c .before .before .before .before .before .before .before .before .before .before .before .before .before .before .before .args .draft .now) (c .before .before .clear3 .ensures)))
 
 pub wipe-spec : {M : Type 1} → statement M
 wipe-spec =

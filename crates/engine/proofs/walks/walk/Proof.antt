@@ -1,88 +1,66 @@
 -- The proof of `walk`.
-use borrow.Author.Needs.{needs}
 use mathlib.Core.Path.{sym, _∙_}
 use native.Mathlib.Omega.{arith}
+use lib.IntN.{pos}
 use lib.ListN.{length}
 use borrow.Author.Tests.{not-true, not-false}
+use Rattle.numbers.proofs.Putting.{filling-whole}
 use Rattle.engine.proofs.Compiling.{all-long}
 use Rattle.engine.proofs.Walking.{zeros-stay, all-left, roomy-walk, cramped-vars, cramped-room}
 use borrow.Author.Needs.{needs}
 use Rattle.engine.proofs.walks.walk.Statement.{statement}
 use Rattle.engine.proofs.walks.walk.Tie as tie
-use Rattle.engine.proofs.walks.walk.Reads as reads
-use Rattle.engine.proofs.walks.walk.Lts as lts
-use Rattle.engine.proofs.drafts.draft_text.Reads as draft-text-reads
-use Rattle.engine.proofs.entries.holds_work.Reads as holds-work-reads
-use Rattle.engine.proofs.rooms.clear_variables.Reads as clear-variables-reads
-use Rattle.engine.proofs.rooms.wipe.Reads as wipe-reads
-use Rattle.engine.proofs.walks.refused.Reads as refused-reads
-use Rattle.engine.proofs.walks.walk_drafted.Reads as walk-drafted-reads
 
--- src/walks.rt:109:9
 refused-requires : tie.Need-refused-requires
 refused-requires c κs = search needs
 
--- src/walks.rt:109:9
 returns : tie.Need-returns
 returns c = cramped-vars _ _ _ _ _ _ (c .refused .ensures) (c .before .if1 .taken)
 
--- src/walks.rt:111:9
 holds-work-requires : tie.Need-holds-work-requires
 holds-work-requires c κs = search needs
 
--- src/walks.rt:112:9
 refused-requires-2 : tie.Need-refused-requires-2
 refused-requires-2 c κs = search needs
 
--- src/walks.rt:112:9
 returns-2 : tie.Need-returns-2
 returns-2 c = cramped-room _ _ _ _ _ _ (c .refused2 .ensures) (c .before .before .before .if1 .left) (sym (c .before .before .holds-work .ensures) ∙ not-true _ (c .before .if2 .taken))
 
--- src/walks.rt:114:5
-clear-variables-requires : tie.Need-clear-variables-requires
-clear-variables-requires c κs = search needs
+clear-i64-requires : tie.Need-clear-i64-requires
+clear-i64-requires c κs = search needs
 
--- src/walks.rt:115:9
 draft-text-requires : tie.Need-draft-text-requires
 draft-text-requires c κs = all-long 98400 (length (c .before .before .before .before .before .before .before .before .before .before .before .before .before .before .before .args .tree .now)) 6144 (length (c .before .before .before .before .before .before .before .before .before .before .before .before .before .before .before .args .table .now)) 16384 (length (c .before .before .before .before .before .before .before .before .before .before .before .before .before .before .before .args .draft .now)) (sym (c .before .before .before .before .before .before .before .holds-work .ensures) ∙ not-false _ (c .before .before .before .before .before .before .if2 .left))
 
--- src/walks.rt:116:9
 walk-drafted-requires : tie.Need-walk-drafted-requires
 walk-drafted-requires c κs =
     let (a, (b, d)) = all-long 98400 (length (c .before .before .before .before .before .before .before .before .before .before .before .before .before .before .before .before .before .before .before .before .before .before .before .before .before .before .args .tree .now)) 6144 (length (c .before .before .before .before .before .before .before .before .before .before .before .before .before .before .before .before .before .before .before .before .before .before .before .before .before .before .args .table .now)) 16384 (length (c .before .before .before .before .before .before .before .before .before .before .before .before .before .before .before .before .before .before .before .before .before .before .before .before .before .before .args .draft .now)) (sym (c .before .before .before .before .before .before .before .before .before .before .before .before .before .before .before .before .before .before .holds-work .ensures) ∙ not-false _ (c .before .before .before .before .before .before .before .before .before .before .before .before .before .before .before .before .before .if2 .left)) in
-    ((_, c .before .before .before .before .before .before .before .before .before .before .draft-text .ensures .0), (omega (arith, b, c .before .before .before .before .before .before .before .before .before .before .draft-text .kept .1 .1 .0), zeros-stay (c .before .before .before .before .before .before .before .before .before .before .before .before .before .before .before .before .before .before .before .before .before .before .before .before .before .before .args .vars .now) (c .before .before .before .before .before .before .before .before .before .before .before .before .before .before .before .clear-variables .ensures)))
+    ((_, c .before .before .before .before .before .before .before .before .before .before .draft-text .ensures .0), (omega (arith, b, c .before .before .before .before .before .before .before .before .before .before .draft-text .kept .1 .1 .0), zeros-stay (c .before .before .before .before .before .before .before .before .before .before .before .before .before .before .before .before .before .before .before .before .before .before .before .before .before .before .args .vars .now) (filling-whole 512 (pos 0) (c .before .before .before .before .before .before .before .before .before .before .before .before .before .before .before .before .before .before .before .before .before .before .before .before .before .before .args .vars .now) (c .before .before .before .before .before .before .before .before .before .before .before .before .before .before .before .clear-i64 .ensures))))
 
--- src/walks.rt:117:5
 wipe-requires : tie.Need-wipe-requires
 wipe-requires c κs =
     let (a, (b, d)) = all-long 98400 (length (c .before .before .before .before .before .before .before .before .before .before .before .before .before .before .before .before .before .before .before .before .before .before .before .before .before .before .before .before .before .before .before .before .before .args .tree .now)) 6144 (length (c .before .before .before .before .before .before .before .before .before .before .before .before .before .before .before .before .before .before .before .before .before .before .before .before .before .before .before .before .before .before .before .before .before .args .table .now)) 16384 (length (c .before .before .before .before .before .before .before .before .before .before .before .before .before .before .before .before .before .before .before .before .before .before .before .before .before .before .before .before .before .before .before .before .before .args .draft .now)) (sym (c .before .before .before .before .before .before .before .before .before .before .before .before .before .before .before .before .before .before .before .before .before .before .before .before .before .holds-work .ensures) ∙ not-false _ (c .before .before .before .before .before .before .before .before .before .before .before .before .before .before .before .before .before .before .before .before .before .before .before .before .if2 .left)) in
     (omega (arith, a, c .before .before .before .before .before .before .before .before .before .before .before .before .before .before .before .before .before .draft-text .kept .1 .0), (omega (arith, b, c .before .before .before .before .before .before .before .before .before .before .before .before .before .before .before .before .before .draft-text .kept .1 .1 .0), omega (arith, d, c .before .before .before .before .before .before .before .before .before .before .before .before .before .before .before .before .before .draft-text .kept .1 .1 .1 .0)))
 
--- src/walks.rt:96:1
 same-length : tie.Need-same-length
 same-length c = search needs
 
--- src/walks.rt:96:1
 same-length-2 : tie.Need-same-length-2
 same-length-2 c = search needs
 
--- src/walks.rt:96:1
 same-length-3 : tie.Need-same-length-3
 same-length-3 c = search needs
 
--- src/walks.rt:96:1
 same-length-4 : tie.Need-same-length-4
 same-length-4 c = search needs
 
--- src/walks.rt:96:1
 same-length-5 : tie.Need-same-length-5
 same-length-5 c = search needs
 
--- src/walks.rt:96:1
 returns-3 : tie.Need-returns-3
 returns-3 c =
     roomy-walk _ _ _ _ _ _ (c .before .before .before .before .before .before .before .before .before .before .before .before .before .before .before .before .before .before .before .before .before .before .before .before .before .before .before .before .before .before .before .before .before .if1 .left) (sym (c .before .before .before .before .before .before .before .before .before .before .before .before .before .before .before .before .before .before .before .before .before .before .before .before .before .before .before .before .before .before .before .before .holds-work .ensures) ∙ not-false _ (c .before .before .before .before .before .before .before .before .before .before .before .before .before .before .before .before .before .before .before .before .before .before .before .before .before .before .before .before .before .before .before .if2 .left))
-    (all-left _ _ _ _ _ (c .before .before .before .before .before .before .before .before .before .before .before .before .before .before .before .before .before .before .before .before .before .before .before .before .draft-text .last .1 .0) (c .before .before .before .before .before .before .before .before .before .before .before .before .before .before .before .before .before .before .before .before .before .before .before .before .draft-text .last .1 .1 .0) (c .before .before .before .before .before .before .before .before .before .before .before .before .before .before .before .before .before .before .before .before .before .before .before .before .draft-text .last .1 .1 .1 .0) (c .before .before .before .before .before .before .before .before .before .before .before .before .before .before .before .before .before .before .before .before .before .before .before .before .before .before .before .before .before .clear-variables .ensures) (c .before .before .before .before .before .before .before .before .before .before .before .before .before .walk-drafted .ensures)
+    (all-left _ _ _ _ _ (c .before .before .before .before .before .before .before .before .before .before .before .before .before .before .before .before .before .before .before .before .before .before .before .before .draft-text .last .1 .0) (c .before .before .before .before .before .before .before .before .before .before .before .before .before .before .before .before .before .before .before .before .before .before .before .before .draft-text .last .1 .1 .0) (c .before .before .before .before .before .before .before .before .before .before .before .before .before .before .before .before .before .before .before .before .before .before .before .before .draft-text .last .1 .1 .1 .0) (filling-whole 512 (pos 0) (c .before .before .before .before .before .before .before .before .before .before .before .before .before .before .before .before .before .before .before .before .before .before .before .before .before .before .before .before .before .before .before .before .before .before .before .before .before .before .before .before .args .vars .now) (c .before .before .before .before .before .before .before .before .before .before .before .before .before .before .before .before .before .before .before .before .before .before .before .before .before .before .before .before .before .clear-i64 .ensures)) (c .before .before .before .before .before .before .before .before .before .before .before .before .before .walk-drafted .ensures)
     (record { beyond = c .before .before .before .before .before .before .before .before .before .before .before .before .before .before .before .before .before .before .before .before .before .before .before .before .draft-text .ensures .1 .0; zeros = c .before .before .before .before .before .before .wipe .ensures .0 }) (record { beyond = c .before .before .before .before .before .before .before .before .before .before .before .before .before .before .before .before .before .before .before .before .before .before .before .before .draft-text .ensures .1 .1 .0; zeros = c .before .before .before .before .before .before .wipe .ensures .1 .0 }) (record { beyond = c .before .before .before .before .before .before .before .before .before .before .before .before .before .before .before .before .before .before .before .before .before .before .before .before .draft-text .ensures .1 .1 .1; zeros = c .before .before .before .before .before .before .wipe .ensures .1 .1 }))
 
 pub walk-spec : {M : Type 1} → statement M
@@ -94,7 +72,7 @@ walk-spec =
     holds-work-requires
     refused-requires-2
     returns-2
-    clear-variables-requires
+    clear-i64-requires
     draft-text-requires
     walk-drafted-requires
     wipe-requires
