@@ -9,10 +9,10 @@ use lib.Seq.{getD-take}
 use mir.Syntax.{w64}
 use mir.Val.{ofZ}
 use Rattle.numbers.specs.Limits.{greatest, draftShare, maxOpen, maxCode}
-use Rattle.numbers.specs.Arithmetic.{add, sub, mul, div, equal, unequal, less, atLeast, greater, atMost}
 use Rattle.tree.specs.Layout.{half}
-use Rattle.pcode.specs.Operators.{Oper, operNo, return, negate, arithmetic, odd, idle, comparison, write, newLine, read}
+use Rattle.pcode.specs.Operators.{operNo}
 use Rattle.pcode.specs.Code.{Instr, nil, kindNo}
+use Rattle.machine.specs.Steps.{oper-few}
 use Rattle.translator.specs.Shape.{Within, literal, operator, load, store, argument, calls, raise, jump, test, Each, each-none, each-more, Shape}
 use Rattle.emission.specs.Draft.{opNo, drafted}
 
@@ -85,26 +85,7 @@ four-at {xs} {n} {c} k d h =
 placed : {n : ℕ} {i : Instr} → n ≤ maxCode → Within n maxOpen i → Placed i
 unfolding kindNo
 placed h (literal {a} v) = record { kind = refl; level = omega arith; operand = a; is = refl; within = v }
-placed h (operator o) = record { kind = refl; level = omega arith; operand = operNo o; is = refl; within = few o }
-  where
-    few : (o : Oper) → operNo o ≤ greatest
-    few return = omega arith
-    few negate = omega arith
-    few (arithmetic add) = omega arith
-    few (arithmetic sub) = omega arith
-    few (arithmetic mul) = omega arith
-    few (arithmetic div) = omega arith
-    few odd = omega arith
-    few idle = omega arith
-    few (comparison equal) = omega arith
-    few (comparison unequal) = omega arith
-    few (comparison less) = omega arith
-    few (comparison atLeast) = omega arith
-    few (comparison greater) = omega arith
-    few (comparison atMost) = omega arith
-    few write = omega arith
-    few newLine = omega arith
-    few read = omega arith
+placed h (operator o) = record { kind = refl; level = omega arith; operand = operNo o; is = refl; within = omega (arith, oper-few o) }
 placed h (load {k} {a} l f) = record { kind = refl; level = omega arith; operand = a; is = refl; within = omega arith }
 placed h (store {k} {a} l f) = record { kind = refl; level = omega arith; operand = a; is = refl; within = omega arith }
 placed h (argument {i} {a} l f) = record { kind = refl; level = omega arith; operand = a; is = refl; within = omega arith }

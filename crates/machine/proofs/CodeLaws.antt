@@ -19,7 +19,7 @@ use Rattle.machine.specs.declared.steps.Does.{Does}
 use Rattle.machine.specs.declared.steps.Does.the-variants.{Stop}
 use Rattle.machine.specs.Machine.{operate, perform, step}
 use Rattle.machine.specs.Frames.{at}
-use Rattle.machine.specs.Steps.{codeOf, Did, oneOf, twoOf}
+use Rattle.machine.specs.Steps.{codeOf, Did, oneOf, twoOf, oper-few}
 
 -- a number is one operator's
 pub same-oper : {o : ℤ} (p q : Oper) → o ≡ pos (operNo p) → ofZ w64 o ≡ operNo q → p ≡ q
@@ -28,29 +28,10 @@ same-oper {o} p q e k =
     let s : some p ≡ some q = sym (oper-back p) ∙ ap operOf n ∙ oper-back q in
     cc
 
-few : (q : Oper) → operNo q ≤ 16
-few return = omega arith
-few negate = omega arith
-few (arithmetic add) = omega arith
-few (arithmetic sub) = omega arith
-few (arithmetic mul) = omega arith
-few (arithmetic div) = omega arith
-few odd = omega arith
-few idle = omega arith
-few (comparison equal) = omega arith
-few (comparison unequal) = omega arith
-few (comparison less) = omega arith
-few (comparison atLeast) = omega arith
-few (comparison greater) = omega arith
-few (comparison atMost) = omega arith
-few write = omega arith
-few newLine = omega arith
-few read = omega arith
-
 -- from its bits
 pub oper-key : (a : ℤ) (q : Oper) → SFits w64 a → ofZ w64 a ≡ operNo q → a ≡ pos (operNo q)
 oper-key (pos n) q h e = ap pos e
-oper-key (negsuc n) q h e = absurd (omega (arith, h .sfits, few q))
+oper-key (negsuc n) q h e = absurd (omega (arith, h .sfits, oper-few q))
 
 -- no other operator takes one value
 pub one-rest : (p : Oper) (x : ℤ) → (operNo p ≡ 1 → ⊥) → (operNo p ≡ 6 → ⊥) → fault notAnOperation ≡ oneOf p x

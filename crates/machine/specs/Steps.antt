@@ -1,17 +1,19 @@
 -- What a step of the code means: the step of the definition, and the cells that it leaves.
 use mathlib.Core.Path.{_≡_}
 use mathlib.Core.Bool.{Bool, true, false}
-use mathlib.Core.List.{List}
-use Prim.Native.Nat.{ℕ, suc, _+_, _≤_, _<_}
+use mathlib.Core.List.{List, [], _∷_}
+use mathlib.Core.Option.{some}
+use Prim.Native.Nat.{ℕ, zero, suc, _+_, _≤_, _<_}
+use native.Mathlib.Omega.{arith as linear}
 use lib.IntN.{ℤ, pos, negsuc}
 use lib.Dec.{ltb, eqb}
-use lib.ListN.{length, set}
+use lib.ListN.{length, set, getElem?}
 use Rattle.numbers.specs.Panel.{placeOutside, notAnOperation}
 use Rattle.numbers.specs.Limits.{maxCode, maxCells}
 use Rattle.numbers.specs.Arithmetic.{Val, val, fault, arith, compared, negated, oddness, flag}
 use Rattle.numbers.specs.Screen.{written, newline}
 use Rattle.numbers.specs.Stack.{afterWrite}
-use Rattle.pcode.specs.Operators.{Oper, return, negate, arithmetic, odd, idle, comparison, write, newLine, read}
+use Rattle.pcode.specs.Operators.{Oper, return, negate, arithmetic, odd, idle, comparison, write, newLine, read, operNo, operators, operOf, oper-back}
 use Rattle.pcode.specs.Code.{Instr, instrsIn}
 use Rattle.machine.specs.declared.frames.Frame.{Frame}
 use Rattle.machine.specs.declared.steps.Does.{Does}
@@ -104,3 +106,13 @@ twoOf idle x y = fault notAnOperation
 twoOf write x y = fault notAnOperation
 twoOf newLine x y = fault notAnOperation
 twoOf read x y = fault notAnOperation
+
+-- an operator's number is a place of their list: 0 to 16
+pub oper-few : (o : Oper) → operNo o ≤ 16
+unfolding operOf operators
+oper-few o = omega (linear, within operators (operNo o) (oper-back o))
+  where
+    within : {A : Type 0} (l : List A) (n : ℕ) {x : A} → getElem? l n ≡ some x → n < length l
+    within [] n e = let z : _≡_ {A = ℕ} 0 1 = cc in omega linear
+    within (y ∷ l) zero e = omega linear
+    within (y ∷ l) (suc n) e = omega (linear, within l n e)
