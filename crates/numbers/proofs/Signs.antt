@@ -19,10 +19,6 @@ pub fits-bits : (z : ℤ) → fits z ≡ true → SFits w64 z
 unfolding fits
 fits-bits z e = record { sfits = omega (arith, ltb-true (mag z) leastMagnitude e) }
 
-pub bits-fit : (z : ℤ) → SFits w64 z → fits z ≡ true
-unfolding fits
-bits-fit z h = lt-ltb (mag z) leastMagnitude (omega (arith, h .sfits))
-
 pub checked-val : (z : ℤ) → fits z ≡ true → checked z ≡ val z
 unfolding checked
 checked-val z e = rw (e, checked)

@@ -8,4 +8,3 @@ pub mod Stack
 pub mod Rows
 pub mod Lent
 pub mod Answers
-pub mod OntoLaws
