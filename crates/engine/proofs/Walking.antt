@@ -20,7 +20,6 @@ use Rattle.pcode.specs.Code.{Instr}
 use Rattle.symbols.specs.Symbols.{mainScope, Row, rows, constRows, varRows}
 use Rattle.translator.specs.declared.Translated.{Translated}
 use Rattle.translator.specs.declared.Translated.the-variants.{Length, Refused}
-use Rattle.emission.specs.Pieces.{made}
 use Rattle.translator.specs.Translate.{finished, bodyCode, procsCode, blockCode}
 use Rattle.machine.specs.declared.runs.Ended.{Ended}
 use Rattle.walk.specs.declared.progress.Outcome.{Outcome}

@@ -5,8 +5,6 @@ use Rattle.pcode.specs.Code.{kindNo}
 use Rattle.engine.proofs.Handing.{Handed, hand-none, hand-more, hand-all, in-draft, kind-small, kind-read}
 use Rattle.engine.proofs.places.hand_kinds.Statement.{statement}
 use Rattle.engine.proofs.places.hand_kinds.Tie as tie
-use Rattle.engine.proofs.places.hand_kinds.Reads as reads
-use Rattle.engine.proofs.places.hand_kinds.Lts as lts
 
 abbrev Inv-loop : tie.InvT-loop
 Inv-loop draft n kinds₀ k₀ kinds k = Handed (λ i. kindNo (i .op)) draft n kinds₀ kinds k
@@ -14,47 +12,36 @@ Inv-loop draft n kinds₀ k₀ kinds k = Handed (λ i. kindNo (i .op)) draft n k
 abbrev μ-loop : tie.MeasureT-loop
 μ-loop draft n kinds₀ k₀ kinds k = n - k
 
--- src/places.rt:23:5
 loop-holds : tie.Need-loop-holds Inv-loop μ-loop
 loop-holds c = hand-none (λ i. kindNo (i .op)) _ _ _ (omega (arith, c .pre .1))
 
--- src/places.rt:24:26
 mul-kinds : tie.Need-mul-kinds Inv-loop μ-loop
 mul-kinds c = omega (arith, in-draft (c .before .loop .k) (c .before .before .pre .0 .1) (c .loop-test .taken), c .before .loop .inv .same, c .before .before .pre .1)
 
--- src/places.rt:24:20
 mul-kinds-2 : tie.Need-mul-kinds-2 Inv-loop μ-loop
 mul-kinds-2 c = omega (arith, in-draft (c .before .loop .k) (c .before .before .pre .0 .1) (c .loop-test .taken), c .before .loop .inv .same, c .before .before .pre .1)
 
--- src/places.rt:24:20
 shared-slice-read-kinds : tie.Need-shared-slice-read-kinds Inv-loop μ-loop
 shared-slice-read-kinds c = omega (arith, in-draft (c .before .before .loop .k) (c .before .before .before .pre .0 .1) (c .before .loop-test .taken), c .before .before .loop .inv .same, c .before .before .before .pre .1)
 
--- src/places.rt:24:20
 cast-kinds : tie.Need-cast-kinds Inv-loop μ-loop
 cast-kinds c = omega (arith, kind-small (c .before .before .loop .k) (c .before .before .before .pre .0 .1) (c .before .loop-test .taken))
 
--- src/places.rt:24:9
 slice-set-from-kinds : tie.Need-slice-set-from-kinds Inv-loop μ-loop
 slice-set-from-kinds c = omega (arith, in-draft (c .before .before .loop .k) (c .before .before .before .pre .0 .1) (c .before .loop-test .taken), c .before .before .loop .inv .same, c .before .before .before .pre .1)
 
--- src/places.rt:25:9
 add-k : tie.Need-add-k Inv-loop μ-loop
 add-k c = omega arith
 
--- src/places.rt:23:5
 loop-less : tie.Need-loop-less Inv-loop μ-loop
 loop-less c = omega arith
 
--- src/places.rt:23:5
 loop-again : tie.Need-loop-again Inv-loop μ-loop
 loop-again c = hand-more (λ i. kindNo (i .op)) _ (c .before .before .loop .inv) (c .before .loop-test .taken) (c .before .before .before .pre .0) (λ l d. kind-read (c .before .before .loop .k) d (c .before .loop-test .taken))
 
--- src/places.rt:17:1
 same-length : tie.Need-same-length Inv-loop μ-loop
 same-length c = c .before .loop .inv .same
 
--- src/places.rt:17:1
 returns : tie.Need-returns Inv-loop μ-loop
 returns c = hand-all (λ i. kindNo (i .op)) (c .before .loop .inv) (omega arith)
 

@@ -4,8 +4,6 @@ use Prim.Native.Nat.{_-_}
 use Rattle.engine.proofs.Handing.{Handed, hand-none, hand-more, hand-all, in-draft, operand-small, operand-read}
 use Rattle.engine.proofs.places.hand_operands.Statement.{statement}
 use Rattle.engine.proofs.places.hand_operands.Tie as tie
-use Rattle.engine.proofs.places.hand_operands.Reads as reads
-use Rattle.engine.proofs.places.hand_operands.Lts as lts
 
 abbrev Inv-loop : tie.InvT-loop
 Inv-loop draft n operands₀ k₀ operands k = Handed (λ i. i .operand) draft n operands₀ operands k
@@ -13,87 +11,66 @@ Inv-loop draft n operands₀ k₀ operands k = Handed (λ i. i .operand) draft n
 abbrev μ-loop : tie.MeasureT-loop
 μ-loop draft n operands₀ k₀ operands k = n - k
 
--- src/places.rt:49:5
 loop-holds : tie.Need-loop-holds Inv-loop μ-loop
 loop-holds c = hand-none (λ i. i .operand) _ _ _ (omega (arith, c .pre .1))
 
--- src/places.rt:50:25
 mul-low : tie.Need-mul-low Inv-loop μ-loop
 mul-low c = omega (arith, in-draft (c .before .loop .k) (c .before .before .pre .0 .1) (c .loop-test .taken), c .before .loop .inv .same, c .before .before .pre .1)
 
--- src/places.rt:50:25
 add-low : tie.Need-add-low Inv-loop μ-loop
 add-low c = omega (arith, in-draft (c .before .loop .k) (c .before .before .pre .0 .1) (c .loop-test .taken), c .before .loop .inv .same, c .before .before .pre .1)
 
--- src/places.rt:50:19
 mul-low-2 : tie.Need-mul-low-2 Inv-loop μ-loop
 mul-low-2 c = omega (arith, in-draft (c .before .loop .k) (c .before .before .pre .0 .1) (c .loop-test .taken), c .before .loop .inv .same, c .before .before .pre .1)
 
--- src/places.rt:50:19
 shared-slice-read-low : tie.Need-shared-slice-read-low Inv-loop μ-loop
 shared-slice-read-low c = omega (arith, in-draft (c .before .before .loop .k) (c .before .before .before .pre .0 .1) (c .before .loop-test .taken), c .before .before .loop .inv .same, c .before .before .before .pre .1)
 
--- src/places.rt:50:19
 cast-low : tie.Need-cast-low Inv-loop μ-loop
 cast-low c = omega (arith, operand-small (c .before .before .loop .k) (c .before .before .before .pre .0 .1) (c .before .loop-test .taken))
 
--- src/places.rt:51:26
 mul-high : tie.Need-mul-high Inv-loop μ-loop
 mul-high c = omega (arith, in-draft (c .before .before .loop .k) (c .before .before .before .pre .0 .1) (c .before .loop-test .taken), c .before .before .loop .inv .same, c .before .before .before .pre .1)
 
--- src/places.rt:51:26
 add-high : tie.Need-add-high Inv-loop μ-loop
 add-high c = omega (arith, in-draft (c .before .before .loop .k) (c .before .before .before .pre .0 .1) (c .before .loop-test .taken), c .before .before .loop .inv .same, c .before .before .before .pre .1)
 
--- src/places.rt:51:20
 mul-high-2 : tie.Need-mul-high-2 Inv-loop μ-loop
 mul-high-2 c = omega (arith, in-draft (c .before .before .loop .k) (c .before .before .before .pre .0 .1) (c .before .loop-test .taken), c .before .before .loop .inv .same, c .before .before .before .pre .1)
 
--- src/places.rt:51:20
 shared-slice-read-high : tie.Need-shared-slice-read-high Inv-loop μ-loop
 shared-slice-read-high c = omega (arith, in-draft (c .before .before .before .loop .k) (c .before .before .before .before .pre .0 .1) (c .before .before .loop-test .taken), c .before .before .before .loop .inv .same, c .before .before .before .before .pre .1)
 
--- src/places.rt:51:20
 cast-high : tie.Need-cast-high Inv-loop μ-loop
 cast-high c = omega (arith, operand-small (c .before .before .before .loop .k) (c .before .before .before .before .pre .0 .1) (c .before .before .loop-test .taken))
 
--- src/places.rt:52:30
 mul-operands : tie.Need-mul-operands Inv-loop μ-loop
 mul-operands c = omega (arith, operand-small (c .before .before .before .loop .k) (c .before .before .before .before .pre .0 .1) (c .before .before .loop-test .taken))
 
--- src/places.rt:52:24
 add-operands : tie.Need-add-operands Inv-loop μ-loop
 add-operands c = omega (arith, operand-small (c .before .before .before .loop .k) (c .before .before .before .before .pre .0 .1) (c .before .before .loop-test .taken))
 
--- src/places.rt:52:23
 cast-operands : tie.Need-cast-operands Inv-loop μ-loop
 cast-operands c = omega (arith, operand-small (c .before .before .before .loop .k) (c .before .before .before .before .pre .0 .1) (c .before .before .loop-test .taken))
 
--- src/places.rt:52:9
 mul-t8 : tie.Need-mul-t8 Inv-loop μ-loop
 mul-t8 c = omega (arith, in-draft (c .before .before .before .loop .k) (c .before .before .before .before .pre .0 .1) (c .before .before .loop-test .taken), c .before .before .before .loop .inv .same, c .before .before .before .before .pre .1)
 
--- src/places.rt:52:9
 slice-set-from-operands : tie.Need-slice-set-from-operands Inv-loop μ-loop
 slice-set-from-operands c = omega (arith, in-draft (c .before .before .before .loop .k) (c .before .before .before .before .pre .0 .1) (c .before .before .loop-test .taken), c .before .before .before .loop .inv .same, c .before .before .before .before .pre .1)
 
--- src/places.rt:53:9
 add-k : tie.Need-add-k Inv-loop μ-loop
 add-k c = omega arith
 
--- src/places.rt:49:5
 loop-less : tie.Need-loop-less Inv-loop μ-loop
 loop-less c = omega arith
 
--- src/places.rt:49:5
 loop-again : tie.Need-loop-again Inv-loop μ-loop
 loop-again c = hand-more (λ i. i .operand) _ (c .before .before .before .loop .inv) (c .before .before .loop-test .taken) (c .before .before .before .before .pre .0) (λ l d. operand-read (c .before .before .before .loop .k) d (c .before .before .loop-test .taken))
 
--- src/places.rt:43:1
 same-length : tie.Need-same-length Inv-loop μ-loop
 same-length c = c .before .loop .inv .same
 
--- src/places.rt:43:1
 returns : tie.Need-returns Inv-loop μ-loop
 returns c = hand-all (λ i. i .operand) (c .before .loop .inv) (omega arith)
 

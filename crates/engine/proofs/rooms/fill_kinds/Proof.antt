@@ -1,3 +1,4 @@
+-- The proof of `fill_kinds`.
 use Prim.Native.Nat.{_≤_, _-_}
 use native.Mathlib.Omega.{arith}
 use lib.IntN.{negsuc}

@@ -1,3 +1,4 @@
+-- The proof of `fill_levels`.
 use Prim.Native.Nat.{_≤_, _-_}
 use native.Mathlib.Omega.{arith}
 use Rattle.numbers.specs.Lent.{filling}

@@ -3,34 +3,24 @@ use borrow.Author.Needs.{needs}
 use mathlib.Core.Path.{sym, ap, _∙_}
 use Rattle.walk.specs.declared.progress.Outcome.{Outcome}
 use Rattle.engine.specs.Walking.{endedOf}
-use borrow.Author.Needs.{needs}
 use Rattle.engine.proofs.walks.ended.Statement.{statement}
 use Rattle.engine.proofs.walks.ended.Tie as tie
-use Rattle.engine.proofs.walks.ended.Reads as reads
-use Rattle.engine.proofs.walks.ended.Lts as lts
-use Rattle.engine.proofs.walks.ended_at.Reads as ended-at-reads
 
--- src/walks.rt:62:23
 enum-known-o : tie.Need-enum-known-o
 enum-known-o c = search needs
 
--- src/walks.rt:62:29
 ended-at-requires : tie.Need-ended-at-requires
 ended-at-requires c κs = rw (c .before .o .given .1) at (c .before .before .before .pre)
 
--- src/walks.rt:63:26
 enum-known-o-2 : tie.Need-enum-known-o-2
 enum-known-o-2 c = search needs
 
--- src/walks.rt:63:35
 ended-at-requires-2 : tie.Need-ended-at-requires-2
 ended-at-requires-2 c κs = rw (c .before .o2 .given .1) at (c .before .before .before .pre)
 
--- src/walks.rt:57:1
 returns : tie.Need-returns
 returns c = c .ended-at .ensures ∙ ap (λ (x : Outcome). endedOf x (c .before .before .before .before .args .budget)) (sym (c .before .before .o .given .1))
 
--- src/walks.rt:57:1
 returns-2 : tie.Need-returns-2
 returns-2 c = c .ended-at2 .ensures ∙ ap (λ (x : Outcome). endedOf x (c .before .before .before .before .args .budget)) (sym (c .before .before .o2 .given .1))
 
