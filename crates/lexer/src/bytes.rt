@@ -1,50 +1,10 @@
-// Classes of bytes, and where a run of them ends.
+// Where a run of bytes of one class ends, and the byte at a place.
 ghost use mathlib.Core.Path.{_≡_};
 ghost use Prim.Native.Nat.{_+_};
 ghost use lib.ListN.{getD, drop};
-ghost use Rattle.numbers.specs.Bytes.{isBlank, isDigit, isLetter, isWordByte, span};
-
-pub fn is_blank(b: u8) -> bool
-    ensures { λ r. ⌜ r ≡ isBlank b ⌝ }
-{
-    if b == b' ' {
-        return true;
-    }
-    if b < 9 {
-        return false;
-    }
-    b <= 13
-}
-
-pub fn is_digit(b: u8) -> bool
-    ensures { λ r. ⌜ r ≡ isDigit b ⌝ }
-{
-    if b < b'0' {
-        return false;
-    }
-    b <= b'9'
-}
-
-pub fn is_letter(b: u8) -> bool
-    ensures { λ r. ⌜ r ≡ isLetter b ⌝ }
-{
-    if b < b'a' {
-        if b < b'A' {
-            return false;
-        }
-        return b <= b'Z';
-    }
-    b <= b'z'
-}
-
-pub fn is_word_byte(b: u8) -> bool
-    ensures { λ r. ⌜ r ≡ isWordByte b ⌝ }
-{
-    if is_letter(b) {
-        return true;
-    }
-    is_digit(b)
-}
+ghost use Rattle.numbers.specs.Bytes.{isBlank, isWordByte, span};
+use numbers::bytes::is_blank;
+use numbers::bytes::is_word_byte;
 
 // The byte at i, or 0 past the end.
 pub fn byte_at(text: &[u8], i: usize) -> u8

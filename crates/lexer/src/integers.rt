@@ -6,9 +6,9 @@ ghost use Rattle.numbers.specs.Bytes.{isDigit};
 ghost use Rattle.lexer.specs.Tokens.{numberAt};
 ghost use Rattle.lexer.specs.Meaning.{Shows};
 ghost use Rattle.lexer.specs.Spelling.{withDigit, literalOf};
-use crate::bytes::is_digit;
 use crate::token::Lexed;
 use crate::token::Token;
+use numbers::bytes::is_digit;
 
 // The greatest i64.
 const GREATEST: usize = 9223372036854775807;

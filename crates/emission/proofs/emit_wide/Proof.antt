@@ -3,73 +3,54 @@ use borrow.Author.Needs.{needs}
 use native.Mathlib.Omega.{arith}
 use lib.ListN.{length-set}
 use Rattle.emission.specs.Drafting.{put, full}
-use borrow.Author.Needs.{needs}
 use Rattle.emission.proofs.emit_wide.Statement.{statement}
 use Rattle.emission.proofs.emit_wide.Tie as tie
-use Rattle.emission.proofs.emit_wide.Reads as reads
-use Rattle.emission.proofs.emit_wide.Lts as lts
 
--- src/lib.rt:52:17
 mul-i : tie.Need-mul-i
 mul-i c = search needs
 
--- src/lib.rt:53:9
 mul-draft : tie.Need-mul-draft
 mul-draft c = search needs
 
--- src/lib.rt:53:9
 slice-write-draft : tie.Need-slice-write-draft
 slice-write-draft c = search needs
 
--- src/lib.rt:54:15
 add-draft : tie.Need-add-draft
 add-draft c = search needs
 
--- src/lib.rt:54:9
 mul-draft-2 : tie.Need-mul-draft-2
 mul-draft-2 c = search needs
 
--- src/lib.rt:54:9
 slice-write-draft-2 : tie.Need-slice-write-draft-2
 slice-write-draft-2 c = simp length-set (omega arith)
 
--- src/lib.rt:55:15
 add-draft-2 : tie.Need-add-draft-2
 add-draft-2 c = search needs
 
--- src/lib.rt:55:9
 mul-draft-3 : tie.Need-mul-draft-3
 mul-draft-3 c = search needs
 
--- src/lib.rt:55:9
 slice-write-draft-3 : tie.Need-slice-write-draft-3
 slice-write-draft-3 c = simp length-set (omega arith)
 
--- src/lib.rt:56:15
 add-draft-3 : tie.Need-add-draft-3
 add-draft-3 c = search needs
 
--- src/lib.rt:56:9
 mul-draft-4 : tie.Need-mul-draft-4
 mul-draft-4 c = search needs
 
--- src/lib.rt:56:9
 slice-write-draft-4 : tie.Need-slice-write-draft-4
 slice-write-draft-4 c = simp length-set (omega arith)
 
--- src/lib.rt:57:18
 add-t10 : tie.Need-add-t10
 add-t10 c = search needs
 
--- src/lib.rt:47:1
 same-length : tie.Need-same-length
 same-length c = search needs
 
--- src/lib.rt:47:1
 returns : tie.Need-returns
 returns c = λ o e. rw (← e) (put _ _ _ _ _ _ (c .before .fits .low .fits) (c .before .pre) (c .if1 .taken))
 
--- src/lib.rt:47:1
 returns-2 : tie.Need-returns-2
 returns-2 c = λ o e. full _ _ _ _ _ _ (c .if1 .left)
 

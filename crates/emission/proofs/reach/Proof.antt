@@ -2,26 +2,18 @@
 use borrow.Author.Needs.{needs}
 use native.Mathlib.Omega.{arith}
 use Rattle.emission.specs.Drafting.{reach-not, reach-on}
-use borrow.Author.Needs.{needs}
 use Rattle.emission.proofs.reach.Statement.{statement}
 use Rattle.emission.proofs.reach.Tie as tie
-use Rattle.emission.proofs.reach.Reads as reads
-use Rattle.emission.proofs.reach.Lts as lts
-use Rattle.emission.proofs.emit_wide.Reads as emit-wide-reads
 
--- src/lib.rt:86:9
 returns : tie.Need-returns
 returns c = λ o ρ w e l m. reach-not o ρ w _ _ _ _ (omega (arith, c .if1 .taken))
 
--- src/lib.rt:88:5
 emit-wide-requires : tie.Need-emit-wide-requires
 emit-wide-requires c κs = search needs
 
--- src/lib.rt:81:1
 same-length : tie.Need-same-length
 same-length c = search needs
 
--- src/lib.rt:81:1
 returns-2 : tie.Need-returns-2
 returns-2 c = λ o ρ w e l m. reach-on o ρ w _ _ (omega (arith, c .before .before .before .before .if1 .left)) (rw (l, m) (c .before .before .emit-wide .ensures o e))
 

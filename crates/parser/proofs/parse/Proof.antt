@@ -1,30 +1,25 @@
+-- `parse` meets its contract.
 use borrow.Author.Needs.{needs}
 use native.Mathlib.Omega.{arith}
 use Rattle.parser.proofs.Entering.{parses-small, parses}
 use Rattle.parser.proofs.parse.Statement.{statement}
 use Rattle.parser.proofs.parse.Tie as tie
 
--- src/lib.rt:102:9
 returns : tie.Need-returns
 returns c = parses-small _ (c .if1 .taken)
 
--- src/lib.rt:104:9
 read-tree-requires : tie.Need-read-tree-requires
 read-tree-requires c κs = c .before .if1 .left
 
--- src/lib.rt:105:17
 end-in-requires : tie.Need-end-in-requires
 end-in-requires c κs = search needs
 
--- src/lib.rt:105:5
 clear-requires : tie.Need-clear-requires
 clear-requires c κs = (omega (arith, c .end-in .ensures, c .before .before .before .before .read-tree .ensures .within), omega (arith, c .before .before .before .before .read-tree .kept .1 .0, c .before .before .before .before .before .before .if1 .left))
 
--- src/lib.rt:98:1
 same-length : tie.Need-same-length
 same-length c = search needs
 
--- src/lib.rt:98:1
 returns-2 : tie.Need-returns-2
 returns-2 c = parses _ (c .before .before .before .before .before .before .before .before .before .if1 .left) (c .before .before .before .before .before .before .before .read-tree .kept .1 .0) (c .before .before .before .before .before .before .before .read-tree .ensures) (rw (c .before .before .before .end-in .ensures) at (c .before .before .clear .ensures))
 

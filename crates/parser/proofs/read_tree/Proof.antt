@@ -1,3 +1,4 @@
+-- `read_tree` meets its contract.
 use borrow.Author.Needs.{needs}
 use mathlib.Core.Path.{sym, _∙_}
 use native.Mathlib.Omega.{arith}
@@ -8,43 +9,33 @@ use Rattle.parser.proofs.read_tree.Statement.{statement}
 use Rattle.parser.proofs.read_tree.Tie as tie
 use Rattle.parser.proofs.read_tree.Reads as reads
 
--- src/lib.rt:88:9
 returns : tie.Need-returns
 returns c = reads-long _ (c .if1 .taken)
 
--- src/lib.rt:90:8
 is-ascii-requires : tie.Need-is-ascii-requires
 is-ascii-requires c κs = search needs
 
--- src/lib.rt:91:49
 slice-relend-prefix-parse-program : tie.Need-slice-relend-prefix-parse-program
 slice-relend-prefix-parse-program c = search needs
 
--- src/lib.rt:91:49
 slice-aggregate-parse-program : tie.Need-slice-aggregate-parse-program
 slice-aggregate-parse-program c = omega (arith, length-take-le 98400 (c .before .before .before .before .before .before .args .tree .now) (c .before .before .before .before .before .before .pre))
 
--- src/lib.rt:91:75
 new-requires : tie.Need-new-requires
 new-requires c κs = search needs
 
--- src/lib.rt:91:13
 parse-program-requires : tie.Need-parse-program-requires
 parse-program-requires c κs = rw (c .new .ensures) (room-start (c .before .before .before .before .before .before .before .args .text .now) (take 98400 (c .before .before .before .before .before .before .before .args .tree .now)) (c .before .before .before .before .if1 .left) (length-take-le 98400 (c .before .before .before .before .before .before .before .args .tree .now) (c .before .before .before .before .before .before .before .pre)))
 
--- src/lib.rt:92:9
 concluded-requires : tie.Need-concluded-requires
 concluded-requires c κs = numbered _ _ (rw (c .before .before .before .new .ensures) at (c .before .before .parse-program .ensures))
 
--- src/lib.rt:92:9
 same-length : tie.Need-same-length
 same-length c = search needs
 
--- src/lib.rt:92:9
 returns-2 : tie.Need-returns-2
 returns-2 c = rw (c .concluded .ensures) (reads _ (c .before .before .before .before .before .before .before .before .before .before .before .args .tree .now) _ (c .before .before .before .parse-program .kept .1 .0 ∙ length-take-le 98400 (c .before .before .before .before .before .before .before .before .before .before .before .args .tree .now) (c .before .before .before .before .before .before .before .before .before .before .before .pre)) (c .before .before .before .before .before .before .before .before .if1 .left) (sym (c .before .before .before .before .before .before .before .is-ascii .ensures) ∙ c .before .before .before .before .before .before .if2 .taken) _ (rw (c .before .before .before .before .new .ensures) at (c .before .before .before .parse-program .ensures)))
 
--- src/lib.rt:83:1
 returns-3 : tie.Need-returns-3
 returns-3 c = reads-bytes _ (c .before .before .if1 .left) (sym (c .before .is-ascii .ensures) ∙ c .if2 .left)
 

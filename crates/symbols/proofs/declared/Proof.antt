@@ -6,11 +6,6 @@ use Rattle.symbols.specs.Chains.{positive}
 use Rattle.symbols.proofs.Search.{asked, legible, Looked, look-start, look-end, look-hit, look-more}
 use Rattle.symbols.proofs.declared.Statement.{statement}
 use Rattle.symbols.proofs.declared.Tie as tie
-use Rattle.symbols.proofs.declared.Reads as reads
-use Rattle.symbols.proofs.declared.Lts as lts
-use Rattle.symbols.proofs.is_beside.Reads as is-beside-reads
-use Rattle.symbols.proofs.names.hash.Reads as hash-reads
-use Rattle.symbols.proofs.names.wide.Reads as wide-reads
 
 abbrev Inv-loop : tie.InvT-loop
 Inv-loop text table used at len scope h k₀ k = Looked text table used (part text at len) scope k
@@ -18,43 +13,33 @@ Inv-loop text table used at len scope h k₀ k = Looked text table used (part te
 abbrev μ-loop : tie.MeasureT-loop
 μ-loop text table used at len scope h k₀ k = k
 
--- src/lib.rt:152:24
 wide-requires : tie.Need-wide-requires Inv-loop μ-loop
 wide-requires c κs = search needs
 
--- src/lib.rt:152:34
 wide-requires-2 : tie.Need-wide-requires-2 Inv-loop μ-loop
 wide-requires-2 c κs = search needs
 
--- src/lib.rt:152:9
 hash-requires : tie.Need-hash-requires Inv-loop μ-loop
 hash-requires c κs = omega (arith, c .before .before .before .before .pre .1 .0, c .before .wide .ensures, c .wide2 .ensures)
 
--- src/lib.rt:154:5
 loop-holds : tie.Need-loop-holds Inv-loop μ-loop
 loop-holds c = look-start _ _ _ (c .before .before .before .before .before .pre .0) _ _
 
--- src/lib.rt:155:9
 sub-k : tie.Need-sub-k Inv-loop μ-loop
 sub-k c = omega (arith, positive _ (c .loop-test .taken))
 
--- src/lib.rt:156:12
 is-beside-requires : tie.Need-is-beside-requires Inv-loop μ-loop
 is-beside-requires c κs = (legible _ _ _ _ (c .before .before .before .before .before .before .before .pre .0) (omega (arith, positive _ (c .loop-test .taken), c .before .loop .inv .below)), asked _ _ _ _ _ _ (c .before .before .before .before .wide .ensures) (c .before .before .before .wide2 .ensures) (c .before .before .before .before .before .before .before .pre .1 .0) (c .before .before .hash .ensures))
 
--- src/lib.rt:157:13
 returns : tie.Need-returns Inv-loop μ-loop
 returns c = look-hit _ _ _ (c .before .before .before .before .before .before .before .before .before .pre .0) _ _ _ (c .before .before .before .before .before .before .before .before .before .pre .1 .1) (c .before .before .loop-test .taken) (c .before .before .before .loop .inv) _ (c .before .is-beside .ensures) (c .if1 .taken)
 
--- src/lib.rt:154:5
 loop-less : tie.Need-loop-less Inv-loop μ-loop
 loop-less c = omega (arith, positive _ (c .before .before .loop-test .taken))
 
--- src/lib.rt:154:5
 loop-again : tie.Need-loop-again Inv-loop μ-loop
 loop-again c = look-more _ _ _ (c .before .before .before .before .before .before .before .before .before .pre .0) _ _ _ (c .before .before .before .before .before .before .before .before .before .pre .1 .1) (c .before .before .loop-test .taken) (c .before .before .before .loop .inv) _ (c .before .is-beside .ensures) (c .if1 .left)
 
--- src/lib.rt:146:1
 returns-2 : tie.Need-returns-2 Inv-loop μ-loop
 returns-2 c = look-end _ _ _ (c .before .before .before .before .before .before .before .pre .0) _ _ _ (c .loop-test .left) (c .before .loop .inv)
 

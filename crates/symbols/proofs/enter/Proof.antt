@@ -2,35 +2,24 @@
 use borrow.Author.Needs.{needs}
 use mathlib.Core.Path.{sym, _∙_}
 use Rattle.symbols.proofs.Adding.{fresh-not, fresh-on}
-use borrow.Author.Needs.{needs}
 use Rattle.symbols.proofs.enter.Statement.{statement}
 use Rattle.symbols.proofs.enter.Tie as tie
-use Rattle.symbols.proofs.enter.Reads as reads
-use Rattle.symbols.proofs.enter.Lts as lts
-use Rattle.symbols.proofs.add.Reads as add-reads
-use Rattle.symbols.proofs.declared.Reads as declared-reads
 
--- src/lib.rt:220:8
 declared-requires : tie.Need-declared-requires
 declared-requires c κs = (c .before .before .before .pre .sound, (c .before .before .before .pre .named .lies, c .before .before .before .pre .scoped))
 
--- src/lib.rt:221:9
 same-length : tie.Need-same-length
 same-length c = search needs
 
--- src/lib.rt:221:9
 returns : tie.Need-returns
 returns c = fresh-not _ _ _ _ _ _ (c .before .declared .ensures) (c .if1 .taken)
 
--- src/lib.rt:223:5
 add-requires : tie.Need-add-requires
 add-requires c κs = (c .before .before .before .before .before .before .pre, λ k. sym (c .before .before .declared .ensures) ∙ c .before .if1 .left)
 
--- src/lib.rt:216:1
 same-length-2 : tie.Need-same-length-2
 same-length-2 c = search needs
 
--- src/lib.rt:216:1
 returns-2 : tie.Need-returns-2
 returns-2 c = fresh-on _ _ _ _ _ _ (c .before .before .before .before .before .declared .ensures) _ (c .before .before .before .before .if1 .left) (c .before .before .add .ensures)
 

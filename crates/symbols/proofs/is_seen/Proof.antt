@@ -2,59 +2,42 @@
 use borrow.Author.Needs.{needs}
 use native.Mathlib.Omega.{arith}
 use Rattle.symbols.proofs.Search.{seen-not, seen-closed, seen-open}
-use borrow.Author.Needs.{needs}
 use Rattle.symbols.proofs.is_seen.Statement.{statement}
 use Rattle.symbols.proofs.is_seen.Tie as tie
-use Rattle.symbols.proofs.is_seen.Reads as reads
-use Rattle.symbols.proofs.is_seen.Lts as lts
-use Rattle.symbols.proofs.has_name.Reads as has-name-reads
-use Rattle.symbols.proofs.scopes.is_open.Reads as is-open-reads
 
--- src/lib.rt:106:13
 mul-i : tie.Need-mul-i
 mul-i c = search needs
 
--- src/lib.rt:107:14
 add-if1 : tie.Need-add-if1
 add-if1 c = search needs
 
--- src/lib.rt:107:8
 mul-if1 : tie.Need-mul-if1
 mul-if1 c = search needs
 
--- src/lib.rt:107:8
 shared-slice-read-if1 : tie.Need-shared-slice-read-if1
 shared-slice-read-if1 c = search needs
 
--- src/lib.rt:108:9
 returns : tie.Need-returns
 returns c = seen-not _ _ _ _ _ _ (c .before .before .before .before .pre .0) (c .before .before .before .before .pre .1) (c .if1 .taken) _
 
--- src/lib.rt:110:29
 add-is-open : tie.Need-add-is-open
 add-is-open c = search needs
 
--- src/lib.rt:110:23
 mul-is-open : tie.Need-mul-is-open
 mul-is-open c = search needs
 
--- src/lib.rt:110:23
 shared-slice-read-is-open : tie.Need-shared-slice-read-is-open
 shared-slice-read-is-open c = search needs
 
--- src/lib.rt:110:8
 is-open-requires : tie.Need-is-open-requires
 is-open-requires c κs = omega (arith, c .before .before .before .before .before .pre .0 .room, c .before .before .before .before .before .pre .0 .older)
 
--- src/lib.rt:111:9
 has-name-requires : tie.Need-has-name-requires
 has-name-requires c κs = (c .before .before .before .before .before .before .before .pre .0, c .before .before .before .before .before .before .before .pre .1)
 
--- src/lib.rt:111:9
 returns-2 : tie.Need-returns-2
 returns-2 c = seen-open _ _ _ _ _ _ (c .before .before .before .before .before .before .before .before .pre .0) (c .before .before .before .before .before .before .before .before .pre .1) _ _ _ (c .before .before .is-open .ensures) (c .before .if2 .taken) (c .has-name .ensures)
 
--- src/lib.rt:101:1
 returns-3 : tie.Need-returns-3
 returns-3 c = seen-closed _ _ _ _ _ _ (c .before .before .before .before .before .before .before .pre .0) (c .before .before .before .before .before .before .before .pre .1) _ _ (c .before .is-open .ensures) (c .if2 .left)
 

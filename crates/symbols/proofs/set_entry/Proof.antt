@@ -3,49 +3,36 @@ use borrow.Author.Needs.{needs}
 use native.Mathlib.Omega.{arith}
 use lib.ListN.{length-set}
 use Rattle.symbols.proofs.Adding.{entry-set}
-use borrow.Author.Needs.{needs}
 use Rattle.symbols.proofs.set_entry.Statement.{statement}
 use Rattle.symbols.proofs.set_entry.Tie as tie
-use Rattle.symbols.proofs.set_entry.Reads as reads
-use Rattle.symbols.proofs.set_entry.Lts as lts
 
--- src/lib.rt:231:11
 mul-table : tie.Need-mul-table
 mul-table c = search needs
 
--- src/lib.rt:231:11
 add-table : tie.Need-add-table
 add-table c = search needs
 
--- src/lib.rt:231:5
 mul-table-2 : tie.Need-mul-table-2
 mul-table-2 c = search needs
 
--- src/lib.rt:231:5
 slice-write-table : tie.Need-slice-write-table
 slice-write-table c = search needs
 
--- src/lib.rt:232:11
 mul-table-3 : tie.Need-mul-table-3
 mul-table-3 c = search needs
 
--- src/lib.rt:232:11
 add-table-2 : tie.Need-add-table-2
 add-table-2 c = search needs
 
--- src/lib.rt:232:5
 mul-table-4 : tie.Need-mul-table-4
 mul-table-4 c = search needs
 
--- src/lib.rt:232:5
 slice-write-table-2 : tie.Need-slice-write-table-2
 slice-write-table-2 c = simp length-set (omega arith)
 
--- src/lib.rt:227:1
 same-length : tie.Need-same-length
 same-length c = simp length-set
 
--- src/lib.rt:227:1
 returns : tie.Need-returns
 returns c = λ s used g h. entry-set s _ _ _ _ g h
 

@@ -1,46 +1,33 @@
 -- The proof of `translate`.
 use borrow.Author.Needs.{needs}
 use Rattle.translator.proofs.Whole.{as-code, as-refusal}
-use borrow.Author.Needs.{needs}
 use Rattle.translator.proofs.translate.Statement.{statement}
 use Rattle.translator.proofs.translate.Tie as tie
-use Rattle.translator.proofs.translate.Reads as reads
-use Rattle.translator.proofs.translate.Lts as lts
-use Rattle.translator.proofs.procedures.block.Reads as block-reads
 
--- src/lib.rt:27:9
 block-requires : tie.Need-block-requires
 block-requires c κs = (c .before .before .before .before .before .before .pre .0, c .before .before .before .before .before .before .pre .1)
 
--- src/lib.rt:29:24
 enum-known-d : tie.Need-enum-known-d
 enum-known-d c = search needs
 
--- src/lib.rt:30:23
 enum-known-d-2 : tie.Need-enum-known-d-2
 enum-known-d-2 c = search needs
 
--- src/lib.rt:22:1
 same-length : tie.Need-same-length
 same-length c = search needs
 
--- src/lib.rt:22:1
 same-length-2 : tie.Need-same-length-2
 same-length-2 c = search needs
 
--- src/lib.rt:22:1
 returns : tie.Need-returns
 returns c = λ b a. as-code (c .before .d .given .1) (c .before .before .before .before .before .before .before .block .ensures b a)
 
--- src/lib.rt:22:1
 same-length-3 : tie.Need-same-length-3
 same-length-3 c = search needs
 
--- src/lib.rt:22:1
 same-length-4 : tie.Need-same-length-4
 same-length-4 c = search needs
 
--- src/lib.rt:22:1
 returns-2 : tie.Need-returns-2
 returns-2 c = λ b a. as-refusal (c .before .d2 .given .1) (c .before .before .before .before .before .before .before .block .ensures b a)
 

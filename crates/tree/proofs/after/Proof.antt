@@ -5,43 +5,31 @@ use Prim.Native.Nat.{ℕ, _+_}
 use Rattle.tree.specs.Reading.{node-fits, size-least, leaf-next, branch-next}
 use Rattle.tree.proofs.after.Statement.{statement}
 use Rattle.tree.proofs.after.Tie as tie
-use Rattle.tree.proofs.after.Reads as reads
-use Rattle.tree.proofs.after.Lts as lts
-use Rattle.tree.proofs.number_at.Reads as number-at-reads
 
--- src/lib.rt:90:8
 mul-if1 : tie.Need-mul-if1
 mul-if1 c = omega (arith, node-fits _ _ _ (c .before .pre .1), size-least (c .before .pre .0), c .before .good)
 
--- src/lib.rt:90:8
 shared-slice-read-if1 : tie.Need-shared-slice-read-if1
 shared-slice-read-if1 c = omega (arith, node-fits _ _ _ (c .before .before .pre .1), size-least (c .before .before .pre .0), c .before .before .good)
 
--- src/lib.rt:91:16
 add-result : tie.Need-add-result
 add-result c = omega (arith, node-fits _ _ _ (c .before .before .before .pre .1), size-least (c .before .before .before .pre .0), c .before .before .before .good)
 
--- src/lib.rt:91:9
 returns : tie.Need-returns
 returns c = λ t s. leaf-next _ _ t s (c .if1 .taken)
 
--- src/lib.rt:93:5
 add-result-2 : tie.Need-add-result-2
 add-result-2 c = omega (arith, node-fits _ _ _ (c .before .before .before .pre .1), size-least (c .before .before .before .pre .0), c .before .before .before .good)
 
--- src/lib.rt:93:34
 add-number-at : tie.Need-add-number-at
 add-number-at c = omega (arith, node-fits _ _ _ (c .before .before .before .pre .1), size-least (c .before .before .before .pre .0), c .before .before .before .good)
 
--- src/lib.rt:93:18
 number-at-requires : tie.Need-number-at-requires
 number-at-requires c κs = omega (arith, node-fits _ _ _ (c .before .before .before .pre .1), size-least (c .before .before .before .pre .0), c .before .before .before .good)
 
--- src/lib.rt:93:5
 add-result-3 : tie.Need-add-result-3
 add-result-3 c = omega (arith, node-fits _ _ _ (c .before .before .before .before .pre .1), branch-next _ _ _ (c .before .before .before .before .pre .1) (c .before .if1 .left), c .number-at .ensures, c .before .before .before .before .good)
 
--- src/lib.rt:86:1
 returns-2 : tie.Need-returns-2
 returns-2 c = λ t s. ap (λ (n : ℕ). c .before .before .before .before .args .i + 4 + n) (c .number-at .ensures) ∙ branch-next _ _ t s (c .before .if1 .left)
 

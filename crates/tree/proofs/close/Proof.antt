@@ -2,57 +2,42 @@
 use borrow.Author.Needs.{needs}
 use native.Mathlib.Omega.{arith}
 use lib.ListN.{length-set}
-use borrow.Author.Needs.{needs}
 use Rattle.tree.proofs.close.Statement.{statement}
 use Rattle.tree.proofs.close.Tie as tie
-use Rattle.tree.proofs.close.Reads as reads
-use Rattle.tree.proofs.close.Lts as lts
 
--- src/lib.rt:73:19
 cast-tree : tie.Need-cast-tree
 cast-tree c = search needs
 
--- src/lib.rt:73:10
 add-tree : tie.Need-add-tree
 add-tree c = search needs
 
--- src/lib.rt:73:5
 mul-tree : tie.Need-mul-tree
 mul-tree c = search needs
 
--- src/lib.rt:73:5
 slice-write-tree : tie.Need-slice-write-tree
 slice-write-tree c = search needs
 
--- src/lib.rt:74:27
 add-tree-2 : tie.Need-add-tree-2
 add-tree-2 c = search needs
 
--- src/lib.rt:74:20
 sub-tree : tie.Need-sub-tree
 sub-tree c = search needs
 
--- src/lib.rt:74:19
 cast-tree-2 : tie.Need-cast-tree-2
 cast-tree-2 c = search needs
 
--- src/lib.rt:74:10
 add-tree-3 : tie.Need-add-tree-3
 add-tree-3 c = search needs
 
--- src/lib.rt:74:5
 mul-tree-2 : tie.Need-mul-tree-2
 mul-tree-2 c = search needs
 
--- src/lib.rt:74:5
 slice-write-tree-2 : tie.Need-slice-write-tree-2
 slice-write-tree-2 c = simp length-set (omega arith)
 
--- src/lib.rt:68:1
 same-length : tie.Need-same-length
 same-length c = search needs
 
--- src/lib.rt:68:1
 returns : tie.Need-returns
 returns c = search needs
 

@@ -1,25 +1,18 @@
 -- The proof of `number_at`.
 use borrow.Author.Needs.{needs}
 use native.Mathlib.Omega.{arith}
-use borrow.Author.Needs.{needs}
 use Rattle.tree.proofs.number_at.Statement.{statement}
 use Rattle.tree.proofs.number_at.Tie as tie
-use Rattle.tree.proofs.number_at.Reads as reads
-use Rattle.tree.proofs.number_at.Lts as lts
 
--- src/lib.rt:82:5
 mul-result : tie.Need-mul-result
 mul-result c = search needs
 
--- src/lib.rt:82:5
 shared-slice-read-result : tie.Need-shared-slice-read-result
 shared-slice-read-result c = search needs
 
--- src/lib.rt:82:5
 cast-result : tie.Need-cast-result
 cast-result c = omega (arith, c .shared-slice-known .given (c .before .args .i))
 
--- src/lib.rt:78:1
 returns : tie.Need-returns
 returns c = search needs
 

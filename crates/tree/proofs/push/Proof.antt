@@ -4,65 +4,48 @@ use native.Mathlib.Omega.{arith}
 use mathlib.Core.Path.{refl}
 use lib.ListN.{length-set}
 use Rattle.tree.specs.Writing.{four-put}
-use borrow.Author.Needs.{needs}
 use Rattle.tree.proofs.push.Statement.{statement}
 use Rattle.tree.proofs.push.Tie as tie
-use Rattle.tree.proofs.push.Reads as reads
-use Rattle.tree.proofs.push.Lts as lts
 
--- src/lib.rt:43:5
 mul-tree : tie.Need-mul-tree
 mul-tree c = search needs
 
--- src/lib.rt:43:5
 slice-write-tree : tie.Need-slice-write-tree
 slice-write-tree c = search needs
 
--- src/lib.rt:44:10
 add-tree : tie.Need-add-tree
 add-tree c = search needs
 
--- src/lib.rt:44:5
 mul-tree-2 : tie.Need-mul-tree-2
 mul-tree-2 c = search needs
 
--- src/lib.rt:44:5
 slice-write-tree-2 : tie.Need-slice-write-tree-2
 slice-write-tree-2 c = simp length-set (omega arith)
 
--- src/lib.rt:45:10
 add-tree-2 : tie.Need-add-tree-2
 add-tree-2 c = search needs
 
--- src/lib.rt:45:5
 mul-tree-3 : tie.Need-mul-tree-3
 mul-tree-3 c = search needs
 
--- src/lib.rt:45:5
 slice-write-tree-3 : tie.Need-slice-write-tree-3
 slice-write-tree-3 c = simp length-set (omega arith)
 
--- src/lib.rt:46:10
 add-tree-3 : tie.Need-add-tree-3
 add-tree-3 c = search needs
 
--- src/lib.rt:46:5
 mul-tree-4 : tie.Need-mul-tree-4
 mul-tree-4 c = search needs
 
--- src/lib.rt:46:5
 slice-write-tree-4 : tie.Need-slice-write-tree-4
 slice-write-tree-4 c = simp length-set (omega arith)
 
--- src/lib.rt:47:5
 add-result : tie.Need-add-result
 add-result c = search needs
 
--- src/lib.rt:39:1
 same-length : tie.Need-same-length
 same-length c = search needs
 
--- src/lib.rt:39:1
 returns : tie.Need-returns
 returns c = (refl, four-put _ _ _ _ _ _ (c .pre))
 

@@ -3,34 +3,24 @@ use borrow.Author.Needs.{needs}
 use native.Mathlib.Omega.{arith}
 use Rattle.tree.specs.Layout.{enc}
 use Rattle.tree.proofs.Literals.{plain, below}
-use borrow.Author.Needs.{needs}
 use Rattle.tree.proofs.push_number.Statement.{statement}
 use Rattle.tree.proofs.push_number.Tie as tie
-use Rattle.tree.proofs.push_number.Reads as reads
-use Rattle.tree.proofs.push_number.Lts as lts
-use Rattle.tree.proofs.push.Reads as push-reads
 
--- src/lib.rt:66:13
 cast-v : tie.Need-cast-v
 cast-v c = rw (plain _ _ (c .before .fits .value) (c .before .pre .1 .1)) (tt, omega (arith, below _ _ (c .before .fits .value) (c .before .pre .1 .1)))
 
--- src/lib.rt:67:34
 cast-push : tie.Need-cast-push
 cast-push c = search needs
 
--- src/lib.rt:67:53
 cast-push-2 : tie.Need-cast-push-2
 cast-push-2 c = rw (plain _ _ (c .before .before .fits .value) (c .before .before .pre .1 .1)) (omega (arith, below _ _ (c .before .before .fits .value) (c .before .before .pre .1 .1)))
 
--- src/lib.rt:67:5
 push-requires : tie.Need-push-requires
 push-requires c κs = search needs
 
--- src/lib.rt:60:1
 same-length : tie.Need-same-length
 same-length c = search needs
 
--- src/lib.rt:60:1
 returns : tie.Need-returns
 unfolding enc
 returns c = (c .before .before .push .ensures .0, λ v h. rw (c .before .before .push .ensures .0) (rw (plain _ _ (c .before .before .before .before .before .fits .value) h) at (c .before .before .push .ensures .1)))

@@ -5,54 +5,40 @@ use Rattle.tree.specs.Reading.{literal-at}
 use Rattle.tree.proofs.Literals.{value-is, value-back}
 use Rattle.tree.proofs.value_at.Statement.{statement}
 use Rattle.tree.proofs.value_at.Tie as tie
-use Rattle.tree.proofs.value_at.Reads as reads
-use Rattle.tree.proofs.value_at.Lts as lts
 
--- src/lib.rt:101:20
 add-low : tie.Need-add-low
 add-low c = omega (arith, literal-at _ _ _ _ (c .pre .2) .fits, c .good)
 
--- src/lib.rt:101:15
 mul-low : tie.Need-mul-low
 mul-low c = omega (arith, literal-at _ _ _ _ (c .pre .2) .fits, c .good)
 
--- src/lib.rt:101:15
 shared-slice-read-low : tie.Need-shared-slice-read-low
 shared-slice-read-low c = omega (arith, literal-at _ _ _ _ (c .before .pre .2) .fits, c .before .good)
 
--- src/lib.rt:101:15
 cast-low : tie.Need-cast-low
 cast-low c = omega (arith, c .shared-slice-known .given (c .before .args .i + 2))
 
--- src/lib.rt:102:21
 add-high : tie.Need-add-high
 add-high c = omega (arith, literal-at _ _ _ _ (c .before .pre .2) .fits, c .before .good)
 
--- src/lib.rt:102:16
 mul-high : tie.Need-mul-high
 mul-high c = omega (arith, literal-at _ _ _ _ (c .before .pre .2) .fits, c .before .good)
 
--- src/lib.rt:102:16
 shared-slice-read-high : tie.Need-shared-slice-read-high
 shared-slice-read-high c = omega (arith, literal-at _ _ _ _ (c .before .before .pre .2) .fits, c .before .before .good)
 
--- src/lib.rt:102:16
 cast-high : tie.Need-cast-high
 cast-high c = omega (arith, c .shared-slice-known2 .given (c .before .before .args .i + 3))
 
--- src/lib.rt:103:12
 mul-result : tie.Need-mul-result
 mul-result c = omega (arith, c .shared-slice-known2 .given (c .before .before .args .i + 3))
 
--- src/lib.rt:103:6
 add-result : tie.Need-add-result
 add-result c = omega (arith, c .before .shared-slice-known .given (c .before .before .args .i + 2), c .shared-slice-known2 .given (c .before .before .args .i + 3))
 
--- src/lib.rt:103:5
 cast-result : tie.Need-cast-result
 cast-result c = omega (arith, value-is _ _ _ _ (c .before .before .pre .2), c .before .before .pre .3)
 
--- src/lib.rt:97:1
 returns : tie.Need-returns
 returns c = value-back _ _ _ _ (c .before .before .pre .2) (c .before .before .pre .3)
 

@@ -2,38 +2,27 @@
 use borrow.Author.Needs.{needs}
 use native.Mathlib.Omega.{arith}
 use Rattle.walk.proofs.Whole.{start-spent, start-opened}
-use borrow.Author.Needs.{needs}
 use Rattle.walk.proofs.start.Statement.{statement}
 use Rattle.walk.proofs.start.Tie as tie
-use Rattle.walk.proofs.start.Reads as reads
-use Rattle.walk.proofs.start.Lts as lts
-use Rattle.walk.proofs.progress.tick.Reads as tick-reads
 
--- src/lib.rt:57:9
 tick-requires : tie.Need-tick-requires
 tick-requires c κs = search needs
 
--- src/lib.rt:58:23
 enum-known-r : tie.Need-enum-known-r
 enum-known-r c = search needs
 
--- src/lib.rt:59:9
 enum-told : tie.Need-enum-told
 enum-told c = search needs
 
--- src/lib.rt:59:9
 returns : tie.Need-returns
 returns c = start-spent _ (c .before .before .before .args .budget) (c .before .before .tick .ensures) (c .enum-told .given .1)
 
--- src/lib.rt:61:13
 add-tick : tie.Need-add-tick
 add-tick c = omega (arith, c .before .before .before .before .pre)
 
--- src/lib.rt:61:5
 tick-requires-2 : tie.Need-tick-requires-2
 tick-requires-2 c κs = search needs
 
--- src/lib.rt:43:1
 returns-2 : tie.Need-returns-2
 returns-2 c = start-opened _ (c .before .before .before .before .before .args .budget) (c .before .before .before .before .tick .ensures) (c .before .before .r .given .1) (c .tick2 .ensures)
 

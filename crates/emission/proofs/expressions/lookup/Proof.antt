@@ -2,36 +2,25 @@
 use borrow.Author.Needs.{needs}
 use Rattle.emission.specs.Meets.{hereOf}
 use Rattle.emission.proofs.Lookup.{looks-none, looks-row, row-there}
-use borrow.Author.Needs.{needs}
 use Rattle.emission.proofs.expressions.lookup.Statement.{statement}
 use Rattle.emission.proofs.expressions.lookup.Tie as tie
-use Rattle.emission.proofs.expressions.lookup.Reads as reads
-use Rattle.emission.proofs.expressions.lookup.Lts as lts
-use Rattle.symbols.proofs.find.Reads as find-reads
-use Rattle.symbols.proofs.read_row.Reads as read-row-reads
 
--- src/expressions.rt:47:9
 find-requires : tie.Need-find-requires
 find-requires c κs = (c .before .before .pre .0 .sound, c .before .before .pre .1)
 
--- src/expressions.rt:48:19
 enum-known-f : tie.Need-enum-known-f
 enum-known-f c = search needs
 
--- src/expressions.rt:49:9
 enum-told : tie.Need-enum-told
 enum-told c = search needs
 
--- src/expressions.rt:49:9
 returns : tie.Need-returns
 unfolding hereOf
 returns c = looks-none _ _ _ _ _ (c .enum-told .given .1) (c .before .before .find .ensures _ (c .before .before .before .before .before .pre .0 .seen))
 
--- src/expressions.rt:51:17
 read-row-requires : tie.Need-read-row-requires
 read-row-requires c κs = row-there _ _ _ _ _ _ (c .before .f .given .1) (c .before .before .before .before .before .before .pre .0 .sound) (c .before .before .before .find .ensures _ (c .before .before .before .before .before .before .pre .0 .seen))
 
--- src/expressions.rt:42:1
 returns-2 : tie.Need-returns-2
 unfolding hereOf
 returns-2 c = looks-row _ _ _ _ _ _ _ (c .before .before .f .given .1) (c .read-row .ensures) (c .before .before .before .before .find .ensures _ (c .before .before .before .before .before .before .before .pre .0 .seen))

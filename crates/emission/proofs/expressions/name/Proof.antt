@@ -7,53 +7,37 @@ use Rattle.emission.specs.Meets.{hereOf}
 use Rattle.emission.proofs.Lookup.{used-none, used-const, used-not, used-var}
 use Rattle.emission.proofs.expressions.name.Statement.{statement}
 use Rattle.emission.proofs.expressions.name.Tie as tie
-use Rattle.emission.proofs.expressions.name.Reads as reads
-use Rattle.emission.proofs.expressions.name.Lts as lts
-use Rattle.emission.proofs.emit_wide.Reads as emit-wide-reads
-use Rattle.emission.proofs.reach.Reads as reach-reads
-use Rattle.emission.proofs.expressions.lookup.Reads as lookup-reads
 
--- src/expressions.rt:60:9
 lookup-requires : tie.Need-lookup-requires
 lookup-requires c κs = (c .before .before .before .pre .0 .known, c .before .before .before .pre .1)
 
--- src/expressions.rt:61:21
 enum-known-f : tie.Need-enum-known-f
 enum-known-f c = search needs
 
--- src/expressions.rt:62:9
 enum-told : tie.Need-enum-told
 enum-told c = search needs
 
--- src/expressions.rt:62:9
 returns : tie.Need-returns
 returns c = used-none _ (c .before .before .lookup .ensures) _ _ _ (c .enum-told .given .1)
 
--- src/expressions.rt:65:9
 emit-wide-requires : tie.Need-emit-wide-requires
 emit-wide-requires c κs = search needs
 
--- src/expressions.rt:65:9
 same-length : tie.Need-same-length
 same-length c = search needs
 
--- src/expressions.rt:65:9
 returns-2 : tie.Need-returns-2
 returns-2 c = used-const _ (c .before .before .before .before .before .before .before .before .before .lookup .ensures) (c .before .before .before .before .before .before .before .f .given .1) _ (c .before .before .before .before .if1 .taken) (c .before .before .emit-wide .ensures LIT refl)
 
--- src/expressions.rt:68:9
 returns-3 : tie.Need-returns-3
 returns-3 c = used-not _ (c .before .before .before .before .before .before .before .lookup .ensures) (c .before .before .before .before .before .f .given .1) _ _ _ (c .before .before .if1 .left) (c .if2 .taken)
 
--- src/expressions.rt:70:5
 reach-requires : tie.Need-reach-requires
 reach-requires c κs = search needs
 
--- src/expressions.rt:55:1
 same-length-2 : tie.Need-same-length-2
 same-length-2 c = search needs
 
--- src/expressions.rt:55:1
 returns-4 : tie.Need-returns-4
 unfolding hereOf rowOf
 returns-4 c = used-var _ (c .before .before .before .before .before .before .before .before .before .before .before .lookup .ensures) (c .before .before .before .before .before .before .before .before .before .f .given .1) _ (c .before .before .before .before .if2 .left) (c .before .before .reach .ensures LOD _ (rowOf _ _ _) refl refl refl)

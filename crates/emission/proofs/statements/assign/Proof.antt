@@ -8,93 +8,67 @@ use Rattle.emission.specs.Meets.{hereOf}
 use Rattle.emission.specs.Drafting.{stops}
 use Rattle.emission.proofs.Lookup.{storing-none, storing-not, storing-stop, storing-made}
 use Rattle.emission.proofs.Stmts.{assign-in, by-assign}
-use borrow.Author.Needs.{needs}
 use Rattle.tree.specs.Parts.{has-assigned}
 use Rattle.emission.proofs.statements.assign.Statement.{statement}
 use Rattle.emission.proofs.statements.assign.Tie as tie
-use Rattle.emission.proofs.statements.assign.Reads as reads
-use Rattle.emission.proofs.statements.assign.Lts as lts
-use Rattle.emission.proofs.reach.Reads as reach-reads
-use Rattle.emission.proofs.expressions.exp.Reads as exp-reads
-use Rattle.emission.proofs.expressions.lookup.Reads as lookup-reads
 
--- src/statements.rt:27:43
 add-lookup : tie.Need-add-lookup
 add-lookup c = omega (arith, assign-in (c .before .before .before .before .pre .1 .1) (c .before .before .before .before .pre .1 .0) .1, c .before .before .before .before .good)
 
--- src/statements.rt:27:38
 mul-lookup : tie.Need-mul-lookup
 mul-lookup c = omega (arith, assign-in (c .before .before .before .before .pre .1 .1) (c .before .before .before .before .pre .1 .0) .1, c .before .before .before .before .good)
 
--- src/statements.rt:27:38
 shared-slice-read-lookup : tie.Need-shared-slice-read-lookup
 shared-slice-read-lookup c = omega (arith, assign-in (c .before .before .before .before .before .pre .1 .1) (c .before .before .before .before .before .pre .1 .0) .1, c .before .before .before .before .before .good)
 
--- src/statements.rt:27:56
 add-lookup-2 : tie.Need-add-lookup-2
 add-lookup-2 c = omega (arith, assign-in (c .before .before .before .before .before .pre .1 .1) (c .before .before .before .before .before .pre .1 .0) .1, c .before .before .before .before .before .good)
 
--- src/statements.rt:27:51
 mul-lookup-2 : tie.Need-mul-lookup-2
 mul-lookup-2 c = omega (arith, assign-in (c .before .before .before .before .before .pre .1 .1) (c .before .before .before .before .before .pre .1 .0) .1, c .before .before .before .before .before .good)
 
--- src/statements.rt:27:51
 shared-slice-read-lookup-2 : tie.Need-shared-slice-read-lookup-2
 shared-slice-read-lookup-2 c = omega (arith, assign-in (c .before .before .before .before .before .before .pre .1 .1) (c .before .before .before .before .before .before .pre .1 .0) .1, c .before .before .before .before .before .before .good)
 
--- src/statements.rt:27:9
 lookup-requires : tie.Need-lookup-requires
 lookup-requires c κs = (c .before .before .before .before .before .before .pre .0 .known, assign-in (c .before .before .before .before .before .before .pre .1 .1) (c .before .before .before .before .before .before .pre .1 .0) .0)
 
--- src/statements.rt:28:21
 enum-known-f : tie.Need-enum-known-f
 enum-known-f c = search needs
 
--- src/statements.rt:29:9
 enum-told : tie.Need-enum-told
 enum-told c = search needs
 
--- src/statements.rt:29:9
 returns : tie.Need-returns
 returns c = by-assign _ (c .before .before .before .before .before .before .before .before .before .pre .1 .1) (λ e a. storing-none _ (c .before .before .lookup .ensures) _ _ _ _ (c .enum-told .given .1))
 
--- src/statements.rt:32:9
 returns-2 : tie.Need-returns-2
 returns-2 c = by-assign _ (c .before .before .before .before .before .before .before .before .before .before .before .before .pre .1 .1) (λ e a. storing-not _ (c .before .before .before .before .before .lookup .ensures) (c .before .before .before .f .given .1) _ _ _ _ (c .if1 .taken))
 
--- src/statements.rt:34:23
 add-exp : tie.Need-add-exp
 add-exp c = omega (arith, assign-in (c .before .before .before .before .before .before .before .before .before .before .before .before .pre .1 .1) (c .before .before .before .before .before .before .before .before .before .before .before .before .pre .1 .0) .1, c .before .before .before .before .before .before .before .before .before .before .before .before .good)
 
--- src/statements.rt:34:9
 exp-requires : tie.Need-exp-requires
 exp-requires c κs = (c .before .before .before .before .before .before .before .before .before .before .before .before .before .pre .0, has-assigned (c .before .before .before .before .before .before .before .before .before .before .before .before .before .pre .1 .1) (c .before .before .before .before .before .before .before .before .before .before .before .before .before .pre .1 .0))
 
--- src/statements.rt:35:18
 enum-known-r : tie.Need-enum-known-r
 enum-known-r c = search needs
 
--- src/statements.rt:36:9
 enum-told-2 : tie.Need-enum-told-2
 enum-told-2 c = search needs
 
--- src/statements.rt:36:9
 same-length : tie.Need-same-length
 same-length c = search needs
 
--- src/statements.rt:36:9
 returns-3 : tie.Need-returns-3
 returns-3 c = by-assign _ (c .before .before .before .before .before .before .before .before .before .before .before .before .before .before .before .before .before .before .pre .1 .1) (λ e a. storing-stop _ (c .before .before .before .before .before .before .before .before .before .before .before .lookup .ensures) (c .before .before .before .before .before .before .before .before .before .f .given .1) _ _ _ (c .before .before .before .before .before .before .if1 .left) (stops (c .enum-told2 .given .1)) (c .before .before .before .before .exp .ensures e a))
 
--- src/statements.rt:38:5
 reach-requires : tie.Need-reach-requires
 reach-requires c κs = omega (arith, c .before .before .before .before .before .before .before .before .before .before .before .before .before .before .before .before .before .before .before .before .pre .0 .room, c .before .before .before .before .before .before .exp .kept .1 .1 .1 .1 .1 .0)
 
--- src/statements.rt:21:1
 same-length-2 : tie.Need-same-length-2
 same-length-2 c = c .before .before .reach .kept .0 ∙ c .before .before .before .before .before .before .before .before .before .exp .kept .1 .1 .1 .1 .1 .0
 
--- src/statements.rt:21:1
 returns-4 : tie.Need-returns-4
 unfolding hereOf rowOf
 returns-4 c = by-assign _ (c .before .before .before .before .before .before .before .before .before .before .before .before .before .before .before .before .before .before .before .before .before .before .before .pre .1 .1) (λ e a. storing-made _ (c .before .before .before .before .before .before .before .before .before .before .before .before .before .before .before .before .lookup .ensures) (c .before .before .before .before .before .before .before .before .before .before .before .before .before .before .f .given .1) _ _ (c .before .before .before .before .before .before .before .before .before .before .before .if1 .left) (c .before .before .before .before .before .before .before .before .before .before .before .before .before .before .before .before .before .before .before .before .before .before .before .pre .0 .most) (c .before .before .before .before .before .r .given .1) (c .before .before .before .before .before .before .before .before .before .exp .ensures e a) (c .before .before .reach .ensures STO _ (rowOf _ _ _) refl refl refl))

@@ -10,89 +10,64 @@ use Rattle.emission.specs.Meets.{hereOf}
 use Rattle.emission.specs.Drafting.{stops}
 use Rattle.emission.proofs.Lookup.{storing-none, storing-not, storing-stop, storing-made}
 use Rattle.emission.proofs.Stmts.{by-name}
-use borrow.Author.Needs.{needs}
 use Rattle.tree.specs.Parts.{name-in}
 use Rattle.emission.proofs.statements.read_one.Statement.{statement}
 use Rattle.emission.proofs.statements.read_one.Tie as tie
-use Rattle.emission.proofs.statements.read_one.Reads as reads
-use Rattle.emission.proofs.statements.read_one.Lts as lts
-use Rattle.emission.proofs.emit.Reads as emit-reads
-use Rattle.emission.proofs.reach.Reads as reach-reads
-use Rattle.emission.proofs.expressions.lookup.Reads as lookup-reads
 
--- src/statements.rt:47:43
 add-lookup : tie.Need-add-lookup
 add-lookup c = omega (arith, name-in (c .before .before .before .before .pre .1 .at) .1, c .before .before .before .before .good)
 
--- src/statements.rt:47:38
 mul-lookup : tie.Need-mul-lookup
 mul-lookup c = omega (arith, name-in (c .before .before .before .before .pre .1 .at) .1, c .before .before .before .before .good)
 
--- src/statements.rt:47:38
 shared-slice-read-lookup : tie.Need-shared-slice-read-lookup
 shared-slice-read-lookup c = omega (arith, name-in (c .before .before .before .before .before .pre .1 .at) .1, c .before .before .before .before .before .good)
 
--- src/statements.rt:47:56
 add-lookup-2 : tie.Need-add-lookup-2
 add-lookup-2 c = omega (arith, name-in (c .before .before .before .before .before .pre .1 .at) .1, c .before .before .before .before .before .good)
 
--- src/statements.rt:47:51
 mul-lookup-2 : tie.Need-mul-lookup-2
 mul-lookup-2 c = omega (arith, name-in (c .before .before .before .before .before .pre .1 .at) .1, c .before .before .before .before .before .good)
 
--- src/statements.rt:47:51
 shared-slice-read-lookup-2 : tie.Need-shared-slice-read-lookup-2
 shared-slice-read-lookup-2 c = omega (arith, name-in (c .before .before .before .before .before .before .pre .1 .at) .1, c .before .before .before .before .before .before .good)
 
--- src/statements.rt:47:9
 lookup-requires : tie.Need-lookup-requires
 lookup-requires c κs = (c .before .before .before .before .before .before .pre .0 .known, name-in (c .before .before .before .before .before .before .pre .1 .at) .0)
 
--- src/statements.rt:48:21
 enum-known-f : tie.Need-enum-known-f
 enum-known-f c = search needs
 
--- src/statements.rt:49:9
 enum-told : tie.Need-enum-told
 enum-told c = search needs
 
--- src/statements.rt:49:9
 returns : tie.Need-returns
 returns c = by-name _ (emitOper read) (storing-none _ (c .before .before .lookup .ensures) _ _ _ _ (c .enum-told .given .1))
 
--- src/statements.rt:52:9
 returns-2 : tie.Need-returns-2
 returns-2 c = by-name _ (emitOper read) (storing-not _ (c .before .before .before .before .before .lookup .ensures) (c .before .before .before .f .given .1) _ _ _ _ (c .if1 .taken))
 
--- src/statements.rt:54:9
 emit-requires : tie.Need-emit-requires
 emit-requires c κs = c .before .before .before .before .before .before .before .before .before .before .before .before .before .pre .0 .room
 
--- src/statements.rt:55:18
 enum-known-r : tie.Need-enum-known-r
 enum-known-r c = search needs
 
--- src/statements.rt:56:9
 enum-told-2 : tie.Need-enum-told-2
 enum-told-2 c = search needs
 
--- src/statements.rt:56:9
 same-length : tie.Need-same-length
 same-length c = search needs
 
--- src/statements.rt:56:9
 returns-3 : tie.Need-returns-3
 returns-3 c = by-name _ (emitOper read) (storing-stop _ (c .before .before .before .before .before .before .before .before .before .before .before .lookup .ensures) (c .before .before .before .before .before .before .before .before .before .f .given .1) _ (emitOper read) _ (c .before .before .before .before .before .before .if1 .left) (stops (c .enum-told2 .given .1)) (c .before .before .before .before .emit .ensures OPR refl))
 
--- src/statements.rt:58:5
 reach-requires : tie.Need-reach-requires
 reach-requires c κs = omega (arith, c .before .before .before .before .before .before .before .before .before .before .before .before .before .before .before .before .before .before .before .before .pre .0 .room, c .before .before .before .before .before .before .emit .kept .0)
 
--- src/statements.rt:42:1
 same-length-2 : tie.Need-same-length-2
 same-length-2 c = c .before .before .reach .kept .0 ∙ c .before .before .before .before .before .before .before .before .before .emit .kept .0
 
--- src/statements.rt:42:1
 returns-4 : tie.Need-returns-4
 unfolding hereOf rowOf
 returns-4 c = by-name _ (emitOper read) (storing-made _ (c .before .before .before .before .before .before .before .before .before .before .before .before .before .before .before .before .lookup .ensures) (c .before .before .before .before .before .before .before .before .before .before .before .before .before .before .f .given .1) _ (emitOper read) (c .before .before .before .before .before .before .before .before .before .before .before .if1 .left) (c .before .before .before .before .before .before .before .before .before .before .before .before .before .before .before .before .before .before .before .before .before .before .before .pre .0 .most) (c .before .before .before .before .before .r .given .1) (c .before .before .before .before .before .before .before .before .before .emit .ensures OPR refl) (c .before .before .reach .ensures STO _ (rowOf _ _ _) refl refl refl))

@@ -1,3 +1,4 @@
+-- The proof of the cycle of calls of the readers of procedures. Each member's measure is eight times the tokens left, and its rank.
 use borrow.Author.Needs.{needs}
 use mathlib.Core.Path.{refl, sym, _∙_}
 use Prim.Native.Nat.{_+_, _*_}
@@ -111,7 +112,6 @@ without-body-below t =
     (falls 2 without-body-kinds.ps _<_ μ-without-body t)
     without-body.Pre
 
--- src/procedures.rt:128:9
 parse-inner-returns-2 : (t : ℕ) → parse-inner-lts.Need-returns-2 (
   see-reads.Asked,
   see-reads.Learnt,
@@ -127,7 +127,6 @@ parse-inner-returns-2 : (t : ℕ) → parse-inner-lts.Need-returns-2 (
 unfolding placeOf
 parse-inner-returns-2 t c = inner-none _ _ (c .before .before .before .before .before .before .before .before .before .see .ensures) (c .before .before .before .before .before .before .before .s .given .1) (λ z. c .before .before .before .before .if1 .taken (c .before .before .before .before .before .mark .ensures ∙ z)) (same-left (c .before .before .before .before .before .before .before .before .before .before .before .before .pre .1) (c .before .before .before .before .before .before .before .before .before .see .ensures) (c .before .before .before .before .before .before .before .s .given .1)) (omega (arith, c .before .before .before .before .before .before .before .before .before .before .before .before .pre .1 .room)) (c .before .before .push .ensures .0) (c .before .before .push .ensures .1)
 
--- src/procedures.rt:132:9
 parse-inner-returns-3 : (t : ℕ) → parse-inner-lts.Need-returns-3 (
   see-reads.Asked,
   see-reads.Learnt,
@@ -143,7 +142,6 @@ parse-inner-returns-3 : (t : ℕ) → parse-inner-lts.Need-returns-3 (
 unfolding placeOf
 parse-inner-returns-3 t c = inner-up _ _ (c .before .before .before .before .before .before .before .before .before .before .see .ensures) (c .before .before .before .before .before .before .before .before .s .given .1) (sym (c .before .before .before .before .before .before .mark .ensures) ∙ c .before .before .before .before .before .if1 .left) (same-left (c .before .before .before .before .before .before .before .before .before .before .before .before .before .pre .1) (c .before .before .before .before .before .before .before .before .before .before .see .ensures) (c .before .before .before .before .before .before .before .before .s .given .1)) _ (c .before .before .before .parse-proc .ensures) (c .match2 .keys2)
 
--- src/procedures.rt:118:1
 parse-inner-returns-4 : (t : ℕ) → parse-inner-lts.Need-returns-4 (
   see-reads.Asked,
   see-reads.Learnt,
@@ -159,7 +157,6 @@ parse-inner-returns-4 : (t : ℕ) → parse-inner-lts.Need-returns-4 (
 unfolding placeOf
 parse-inner-returns-4 t c = inner-absent _ _ (c .before .before .before .before .before .before .before .before .before .before .before .before .before .before .before .before .see .ensures) (c .before .before .before .before .before .before .before .before .before .before .before .before .before .before .s .given .1) (sym (c .before .before .before .before .before .before .before .before .before .before .before .before .mark .ensures) ∙ c .before .before .before .before .before .before .before .before .before .before .before .if1 .left) (same-left (c .before .before .before .before .before .before .before .before .before .before .before .before .before .before .before .before .before .before .before .pre .1) (c .before .before .before .before .before .before .before .before .before .before .before .before .before .before .before .before .see .ensures) (c .before .before .before .before .before .before .before .before .before .before .before .before .before .before .s .given .1)) (c .before .before .before .before .before .before .before .before .before .parse-proc .ensures) (c .before .before .before .before .before .r .given .1) (omega (arith, c .before .before .before .before .before .before .before .before .before .before .before .before .before .before .before .before .before .before .before .pre .1 .room, c .before .before .before .before .before .before .before .before .before .parse-proc .kept .1 .0)) (c .before .before .push2 .ensures .0) (c .before .before .push2 .ensures .1)
 
--- src/procedures.rt:100:9
 parse-later-returns-2 : (t : ℕ) → parse-later-lts.Need-returns-2 (
   see-reads.Asked,
   see-reads.Learnt,
@@ -179,7 +176,6 @@ parse-later-returns-2 t c =
     let f = one-fewer (c .before .before .before .before .before .before .before .before .before .before .before .before .before .pre .1) (c .before .before .before .before .before .before .before .before .before .before .see .ensures) (c .before .before .before .before .before .before .before .before .s .given .1) (c .before .before .before .take .ensures) in
     moved _ (omega arith) (omega arith) (later-there _ _ (c .before .before .before .before .before .before .before .before .before .before .see .ensures) (c .before .before .before .before .before .before .before .before .s .given .1) (c .before .before .before .take .ensures) (sym (c .before .before .before .before .before .before .mark .ensures) ∙ c .before .before .before .before .before .if1 .taken)) (c .before .before .parse-proc .ensures)
 
--- src/procedures.rt:90:1
 parse-later-returns-3 : (t : ℕ) → parse-later-lts.Need-returns-3 (
   see-reads.Asked,
   see-reads.Learnt,

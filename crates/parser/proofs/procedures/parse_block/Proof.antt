@@ -1,3 +1,4 @@
+-- `procedures::parse_block` meets its contract.
 use borrow.Author.Needs.{needs}
 use mathlib.Core.Path.{refl}
 use native.Mathlib.Omega.{arith}

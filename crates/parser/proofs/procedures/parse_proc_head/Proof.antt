@@ -1,3 +1,4 @@
+-- `procedures::parse_proc_head` meets its contract.
 use borrow.Author.Needs.{needs}
 use mathlib.Core.Path.{refl, _∙_}
 use native.Mathlib.Omega.{arith}
@@ -7,73 +8,57 @@ use Rattle.parser.proofs.Procs.{head-stop, head-name, head-open, head-a
 use Rattle.parser.proofs.procedures.parse_proc_head.Statement.{statement}
 use Rattle.parser.proofs.procedures.parse_proc_head.Tie as tie
 
--- src/procedures.rt:27:9
 want-requires : tie.Need-want-requires
 want-requires c κs = search needs
 
--- src/procedures.rt:28:18
 enum-known-s : tie.Need-enum-known-s
 enum-known-s c = search needs
 
--- src/procedures.rt:29:32
 enum-told : tie.Need-enum-told
 enum-told c = search needs
 
--- src/procedures.rt:29:32
 why-requires : tie.Need-why-requires
 why-requires c κs = search needs
 
--- src/procedures.rt:29:9
 returns : tie.Need-returns
 unfolding placeOf
 returns c = refused (head-stop _ (c .before .before .before .want .ensures procedureWord refl) (c .before .enum-told .given .1) (c .why .ensures))
 
--- src/procedures.rt:31:9
 parse-id-requires : tie.Need-parse-id-requires
 unfolding placeOf
 parse-id-requires c κs = room-took (c .before .before .before .before .before .before .before .pre) (c .before .before .before .before .want .ensures procedureWord refl) (c .before .before .s .given .1) _ 0 (omega arith)
 
--- src/procedures.rt:32:22
 enum-known-r : tie.Need-enum-known-r
 enum-known-r c = search needs
 
--- src/procedures.rt:33:9
 same-length : tie.Need-same-length
 same-length c = search needs
 
--- src/procedures.rt:33:9
 returns-2 : tie.Need-returns-2
 unfolding placeOf
 returns-2 c =
     let a = room-took (c .before .before .before .before .before .before .before .before .before .before .before .pre) (c .before .before .before .before .before .before .before .before .want .ensures procedureWord refl) (c .before .before .before .before .before .before .s .given .1) (c .before .before .before .before .before .before .before .before .before .before .before .args .used) 12 (omega arith) in
     passed a _ (c .before .before .before .parse-id .ensures) (c .match2 .keys2) (λ w z. head-name _ (c .before .before .before .before .before .before .before .before .want .ensures procedureWord refl) (c .before .before .before .before .before .before .s .given .1) z)
 
--- src/procedures.rt:35:9
 want-requires-2 : tie.Need-want-requires-2
 want-requires-2 c κs = search needs
 
--- src/procedures.rt:36:18
 enum-known-z : tie.Need-enum-known-z
 enum-known-z c = search needs
 
--- src/procedures.rt:37:32
 enum-told-2 : tie.Need-enum-told-2
 enum-told-2 c = search needs
 
--- src/procedures.rt:37:32
 why-requires-2 : tie.Need-why-requires-2
 why-requires-2 c κs = search needs
 
--- src/procedures.rt:37:9
 same-length-2 : tie.Need-same-length-2
 same-length-2 c = search needs
 
--- src/procedures.rt:37:9
 returns-3 : tie.Need-returns-3
 unfolding placeOf
 returns-3 c = refused (head-open _ (c .before .before .before .before .before .before .before .before .before .before .before .before .before .before .want .ensures procedureWord refl) (c .before .before .before .before .before .before .before .before .before .before .before .before .s .given .1) (c .before .before .before .before .before .before .before .before .before .parse-id .ensures) (c .before .before .before .before .before .r .given .1) (c .before .before .before .want2 .ensures openSign refl) (c .before .enum-told2 .given .1) (c .why2 .ensures))
 
--- src/procedures.rt:39:9
 parse-args-requires : tie.Need-parse-args-requires
 unfolding placeOf
 parse-args-requires c κs =
@@ -81,15 +66,12 @@ parse-args-requires c κs =
     let b = room-after (c .before .before .before .before .before .before .before .before .before .before .parse-id .ensures) (c .before .before .before .before .before .before .r .given .1) {t = 12} a (c .before .before .before .before .before .before .before .before .before .before .parse-id .kept .1 .0) (omega arith) in
     room-took b (c .before .before .before .before .want2 .ensures openSign refl) (c .before .before .z .given .1) _ 4 (omega arith)
 
--- src/procedures.rt:40:22
 enum-known-q : tie.Need-enum-known-q
 enum-known-q c = search needs
 
--- src/procedures.rt:41:9
 same-length-3 : tie.Need-same-length-3
 same-length-3 c = search needs
 
--- src/procedures.rt:41:9
 returns-4 : tie.Need-returns-4
 unfolding placeOf
 returns-4 c =
@@ -101,27 +83,21 @@ returns-4 c =
     passed d _ (c .before .before .before .parse-args .ensures) (c .match4 .keys2)
     (λ w z. head-args _ (c .before .before .before .before .before .before .before .before .before .before .before .before .before .before .before .before .before .before .before .want .ensures procedureWord refl) (c .before .before .before .before .before .before .before .before .before .before .before .before .before .before .before .before .before .s .given .1) (c .before .before .before .before .before .before .before .before .before .before .before .before .before .before .parse-id .ensures) (c .before .before .before .before .before .before .before .before .before .before .r .given .1) (c .before .before .before .before .before .before .before .before .want2 .ensures openSign refl) (c .before .before .before .before .before .before .z .given .1) (omega (arith, grew (c .before .before .before .before .before .before .before .before .before .before .before .before .before .before .parse-id .ensures) (c .before .before .before .before .before .before .before .before .before .before .r .given .1) .fewer)) z)
 
--- src/procedures.rt:43:9
 want-requires-3 : tie.Need-want-requires-3
 want-requires-3 c κs = search needs
 
--- src/procedures.rt:44:18
 enum-known-y : tie.Need-enum-known-y
 enum-known-y c = search needs
 
--- src/procedures.rt:45:32
 enum-told-3 : tie.Need-enum-told-3
 enum-told-3 c = search needs
 
--- src/procedures.rt:45:32
 why-requires-3 : tie.Need-why-requires-3
 why-requires-3 c κs = search needs
 
--- src/procedures.rt:45:9
 same-length-4 : tie.Need-same-length-4
 same-length-4 c = search needs
 
--- src/procedures.rt:45:9
 returns-5 : tie.Need-returns-5
 unfolding placeOf
 returns-5 c =
@@ -131,11 +107,9 @@ returns-5 c =
     let g = wanted-fewer b (c .before .before .before .before .before .before .before .before .before .before .before .before .before .before .want2 .ensures openSign refl) (c .before .before .before .before .before .before .before .before .before .before .before .before .z .given .1) in
     refused (head-end _ (c .before .before .before .before .before .before .before .before .before .before .before .before .before .before .before .before .before .before .before .before .before .before .before .before .before .want .ensures procedureWord refl) (c .before .before .before .before .before .before .before .before .before .before .before .before .before .before .before .before .before .before .before .before .before .before .before .s .given .1) (c .before .before .before .before .before .before .before .before .before .before .before .before .before .before .before .before .before .before .before .before .parse-id .ensures) (c .before .before .before .before .before .before .before .before .before .before .before .before .before .before .before .before .r .given .1) (c .before .before .before .before .before .before .before .before .before .before .before .before .before .before .want2 .ensures openSign refl) (c .before .before .before .before .before .before .before .before .before .before .before .before .z .given .1) (omega (arith, grew (c .before .before .before .before .before .before .before .before .before .before .before .before .before .before .before .before .before .before .before .before .parse-id .ensures) (c .before .before .before .before .before .before .before .before .before .before .before .before .before .before .before .before .r .given .1) .fewer)) (c .before .before .before .before .before .before .before .before .before .parse-args .ensures) (c .before .before .before .before .before .q .given .1) (c .before .before .before .want3 .ensures semicolonSign refl) (c .before .enum-told3 .given .1) (c .why3 .ensures))
 
--- src/procedures.rt:23:1
 same-length-5 : tie.Need-same-length-5
 same-length-5 c = c .before .before .before .before .before .before .before .before .before .parse-args .kept .1 .0 ∙ c .before .before .before .before .before .before .before .before .before .before .before .before .before .before .before .before .before .before .before .before .parse-id .kept .1 .0
 
--- src/procedures.rt:23:1
 returns-6 : tie.Need-returns-6
 unfolding placeOf
 returns-6 c =

@@ -153,7 +153,6 @@ read-on-at t = and 2 read-on-kinds.ps (is 2 read-on-kinds.ps μ-read-on t) read-
 abbrev read-on-below : ℕ → In 2 read-on-kinds.ps
 read-on-below t = and 2 read-on-kinds.ps (falls 2 read-on-kinds.ps _<_ μ-read-on t) read-on.Pre
 
--- src/statements.rt:114:5
 parse-else-part-parse-statement-requires :
     (t : ℕ) → parse-else-part-lts.Need-parse-statement-requires (
       see-reads.Asked,
@@ -175,7 +174,6 @@ parse-statements-Inv-loop text tree₀ used depth end₀ count₀ c₀ tree end 
 abbrev parse-statements-μ-loop : parse-statements-lts.MeasureT-loop
 parse-statements-μ-loop text tree₀ used depth end₀ count₀ c₀ tree end count c = left c
 
--- src/statements.rt:146:13
 parse-statements-parse-statement-requires :
     (t : ℕ) → parse-statements-lts.Need-parse-statement-requires (
       parse-statement-below t,

@@ -4,82 +4,58 @@ use lib.Seq.{length-take-le}
 use borrow.Author.Needs.{needs}
 use Rattle.replay.proofs.walks.walk_input.Statement.{statement}
 use Rattle.replay.proofs.walks.walk_input.Tie as tie
-use Rattle.replay.proofs.walks.walk_input.Reads as reads
-use Rattle.replay.proofs.walks.walk_input.Lts as lts
-use Rattle.protocol.proofs.parts.part.Reads as part-reads
-use Rattle.protocol.proofs.read.read_bytes.Reads as read-bytes-reads
-use Rattle.replay.proofs.lines.unknown.Reads as unknown-reads
-use Rattle.replay.proofs.walks.walk_counts.Reads as walk-counts-reads
 
--- src/walks.rt:119:35
 part-requires : tie.Need-part-requires
 part-requires c κs = search needs
 
--- src/walks.rt:119:24
 read-bytes-requires : tie.Need-read-bytes-requires
 read-bytes-requires c κs = search needs
 
--- src/walks.rt:119:19
 enum-known-n : tie.Need-enum-known-n
 enum-known-n c = search needs
 
--- src/walks.rt:120:30
 enum-told : tie.Need-enum-told
 enum-told c = search needs
 
--- src/walks.rt:120:9
 unknown-requires : tie.Need-unknown-requires
 unknown-requires c κs = search needs
 
--- src/walks.rt:120:9
 same-length : tie.Need-same-length
 same-length c = search needs
 
--- src/walks.rt:120:9
 same-length-2 : tie.Need-same-length-2
 same-length-2 c = search needs
 
--- src/walks.rt:120:9
 returns : tie.Need-returns
 returns c = search needs
 
--- src/walks.rt:123:9
 unknown-requires-2 : tie.Need-unknown-requires-2
 unknown-requires-2 c κs = search needs
 
--- src/walks.rt:123:9
 same-length-3 : tie.Need-same-length-3
 same-length-3 c = search needs
 
--- src/walks.rt:123:9
 same-length-4 : tie.Need-same-length-4
 same-length-4 c = search needs
 
--- src/walks.rt:123:9
 returns-2 : tie.Need-returns-2
 returns-2 c = search needs
 
--- src/walks.rt:125:29
 slice-reshare-prefix-walk-counts : tie.Need-slice-reshare-prefix-walk-counts
 slice-reshare-prefix-walk-counts c = search needs
 
--- src/walks.rt:125:29
 slice-aggregate-walk-counts : tie.Need-slice-aggregate-walk-counts
 slice-aggregate-walk-counts c = sym (length-take-le (c .before .before .before .n .given .0 .0) _ (c .before .if1 .left))
 
--- src/walks.rt:125:5
 walk-counts-requires : tie.Need-walk-counts-requires
 walk-counts-requires c κs = search needs
 
--- src/walks.rt:116:1
 same-length-5 : tie.Need-same-length-5
 same-length-5 c = search needs
 
--- src/walks.rt:116:1
 same-length-6 : tie.Need-same-length-6
 same-length-6 c = search needs
 
--- src/walks.rt:116:1
 returns-3 : tie.Need-returns-3
 returns-3 c = search needs
 

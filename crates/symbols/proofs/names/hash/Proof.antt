@@ -5,9 +5,6 @@ use Prim.Native.Nat.{_≤_, _<_, _-_, _+_}
 use Rattle.symbols.proofs.Spelling.{Hashed, hash-start, hash-more, hash-end}
 use Rattle.symbols.proofs.names.hash.Statement.{statement}
 use Rattle.symbols.proofs.names.hash.Tie as tie
-use Rattle.symbols.proofs.names.hash.Reads as reads
-use Rattle.symbols.proofs.names.hash.Lts as lts
-use Rattle.symbols.proofs.names.byte.Reads as byte-reads
 
 abbrev Inv-loop : tie.InvT-loop
 Inv-loop text at len h₀ k₀ h k = (k ≤ len) × (h < 4294967296) × Hashed text at len k h
@@ -15,47 +12,36 @@ Inv-loop text at len h₀ k₀ h k = (k ≤ len) × (h < 4294967296) × Hashed t
 abbrev μ-loop : tie.MeasureT-loop
 μ-loop text at len h₀ k₀ h k = len - k
 
--- src/names.rt:29:5
 loop-holds : tie.Need-loop-holds Inv-loop μ-loop
 loop-holds c = (omega arith, omega arith, hash-start _ _ _)
 
--- src/names.rt:30:14
 mul-h : tie.Need-mul-h Inv-loop μ-loop
 mul-h c = omega arith
 
--- src/names.rt:30:39
 add-byte : tie.Need-add-byte Inv-loop μ-loop
 add-byte c = omega arith
 
--- src/names.rt:30:34
 shared-slice-read-byte : tie.Need-shared-slice-read-byte Inv-loop μ-loop
 shared-slice-read-byte c = omega arith
 
--- src/names.rt:30:29
 byte-requires : tie.Need-byte-requires Inv-loop μ-loop
 byte-requires c κs = omega arith
 
--- src/names.rt:30:14
 add-h : tie.Need-add-h Inv-loop μ-loop
 add-h c = omega (arith, c .byte .ensures, c .before .before .before .before .shared-slice-known .given (c .before .before .before .before .before .args .at + c .before .before .before .loop .k))
 
--- src/names.rt:31:9
 add-k : tie.Need-add-k Inv-loop μ-loop
 add-k c = omega arith
 
--- src/names.rt:29:5
 loop-less : tie.Need-loop-less Inv-loop μ-loop
 loop-less c = omega arith
 
--- src/names.rt:29:5
 loop-again : tie.Need-loop-again Inv-loop μ-loop
 loop-again c = (omega arith, mod-lt _ (omega arith), hash-more _ _ _ _ _ _ (c .byte .ensures) (c .before .before .before .before .before .pre) (c .before .before .loop-test .taken) (c .before .before .before .loop .inv .2))
 
--- src/names.rt:33:5
 cast-result : tie.Need-cast-result Inv-loop μ-loop
 cast-result c = omega arith
 
--- src/names.rt:23:1
 returns : tie.Need-returns Inv-loop μ-loop
 returns c = hash-end _ _ _ _ _ (c .loop-test .left) (c .before .loop .inv .2)
 

@@ -5,9 +5,6 @@ use lib.ListN.{length-set}
 use Rattle.symbols.proofs.Seeing.{plain-length, Marking, mark-start, mark-lies, mark-small, mark-first, mark-less, mark-more, mark-end}
 use Rattle.symbols.proofs.scopes.mark.Statement.{statement}
 use Rattle.symbols.proofs.scopes.mark.Tie as tie
-use Rattle.symbols.proofs.scopes.mark.Reads as reads
-use Rattle.symbols.proofs.scopes.mark.Lts as lts
-use Rattle.symbols.proofs.names.wide.Reads as wide-reads
 
 abbrev Inv-loop : tie.InvT-loop
 Inv-loop table₀ scope p₀ table p = Marking table₀ scope table p
@@ -15,91 +12,69 @@ Inv-loop table₀ scope p₀ table p = Marking table₀ scope table p
 abbrev μ-loop : tie.MeasureT-loop
 μ-loop table₀ scope p₀ table p = p
 
--- src/scopes.rt:48:9
 wide-requires : tie.Need-wide-requires Inv-loop μ-loop
 wide-requires c κs = search needs
 
--- src/scopes.rt:49:5
 loop-holds : tie.Need-loop-holds Inv-loop μ-loop
 loop-holds c = mark-start _ _ _ (c .wide .ensures) (c .before .before .pre)
 
--- src/scopes.rt:50:39
 sub-wide : tie.Need-sub-wide Inv-loop μ-loop
 sub-wide c = omega (arith, mark-lies _ _ _ _ (c .before .before .before .before .pre) (c .before .loop .inv) (c .loop-test .taken))
 
--- src/scopes.rt:50:32
 mul-wide : tie.Need-mul-wide Inv-loop μ-loop
 mul-wide c = omega (arith, mark-lies _ _ _ _ (c .before .before .before .before .pre) (c .before .loop .inv) (c .loop-test .taken))
 
--- src/scopes.rt:50:32
 add-wide : tie.Need-add-wide Inv-loop μ-loop
 add-wide c = omega (arith, mark-lies _ _ _ _ (c .before .before .before .before .pre) (c .before .loop .inv) (c .loop-test .taken))
 
--- src/scopes.rt:50:26
 mul-wide-2 : tie.Need-mul-wide-2 Inv-loop μ-loop
 mul-wide-2 c = omega (arith, mark-lies _ _ _ _ (c .before .before .before .before .pre) (c .before .loop .inv) (c .loop-test .taken))
 
--- src/scopes.rt:50:26
 slice-read-wide : tie.Need-slice-read-wide Inv-loop μ-loop
 slice-read-wide c = omega (arith, mark-lies _ _ _ _ (c .before .before .before .before .before .pre) (c .before .before .loop .inv) (c .before .loop-test .taken))
 
--- src/scopes.rt:50:13
 wide-requires-2 : tie.Need-wide-requires-2 Inv-loop μ-loop
 wide-requires-2 c κs = search needs
 
--- src/scopes.rt:51:15
 mul-table : tie.Need-mul-table Inv-loop μ-loop
 mul-table c = omega (arith, mark-small _ _ _ _ (c .before .before .before .before .before .before .pre) (c .before .before .before .loop .inv) (c .before .before .loop-test .taken) _ (c .wide2 .ensures), mark-first _ _ _ _ (c .before .before .before .before .before .before .pre) (c .before .before .before .loop .inv) (c .before .before .loop-test .taken) _ (c .wide2 .ensures))
 
--- src/scopes.rt:51:15
 add-table : tie.Need-add-table Inv-loop μ-loop
 add-table c = omega (arith, mark-small _ _ _ _ (c .before .before .before .before .before .before .pre) (c .before .before .before .loop .inv) (c .before .before .loop-test .taken) _ (c .wide2 .ensures), mark-first _ _ _ _ (c .before .before .before .before .before .before .pre) (c .before .before .before .loop .inv) (c .before .before .loop-test .taken) _ (c .wide2 .ensures))
 
--- src/scopes.rt:51:9
 mul-table-2 : tie.Need-mul-table-2 Inv-loop μ-loop
 mul-table-2 c = omega (arith, mark-small _ _ _ _ (c .before .before .before .before .before .before .pre) (c .before .before .before .loop .inv) (c .before .before .loop-test .taken) _ (c .wide2 .ensures), mark-first _ _ _ _ (c .before .before .before .before .before .before .pre) (c .before .before .before .loop .inv) (c .before .before .loop-test .taken) _ (c .wide2 .ensures))
 
--- src/scopes.rt:51:9
 slice-write-table : tie.Need-slice-write-table Inv-loop μ-loop
 slice-write-table c = omega (arith, mark-small _ _ _ _ (c .before .before .before .before .before .before .pre) (c .before .before .before .loop .inv) (c .before .before .loop-test .taken) _ (c .wide2 .ensures), mark-first _ _ _ _ (c .before .before .before .before .before .before .pre) (c .before .before .before .loop .inv) (c .before .before .loop-test .taken) _ (c .wide2 .ensures))
 
--- src/scopes.rt:52:31
 sub-wide-2 : tie.Need-sub-wide-2 Inv-loop μ-loop
 sub-wide-2 c = omega (arith, mark-lies _ _ _ _ (c .before .before .before .before .before .before .pre) (c .before .before .before .loop .inv) (c .before .before .loop-test .taken))
 
--- src/scopes.rt:52:24
 mul-wide-3 : tie.Need-mul-wide-3 Inv-loop μ-loop
 mul-wide-3 c = omega (arith, mark-lies _ _ _ _ (c .before .before .before .before .before .before .pre) (c .before .before .before .loop .inv) (c .before .before .loop-test .taken))
 
--- src/scopes.rt:52:24
 add-wide-2 : tie.Need-add-wide-2 Inv-loop μ-loop
 add-wide-2 c = omega (arith, mark-lies _ _ _ _ (c .before .before .before .before .before .before .pre) (c .before .before .before .loop .inv) (c .before .before .loop-test .taken))
 
--- src/scopes.rt:52:18
 mul-wide-4 : tie.Need-mul-wide-4 Inv-loop μ-loop
 mul-wide-4 c = omega (arith, mark-lies _ _ _ _ (c .before .before .before .before .before .before .pre) (c .before .before .before .loop .inv) (c .before .before .loop-test .taken))
 
--- src/scopes.rt:52:18
 slice-read-wide-2 : tie.Need-slice-read-wide-2 Inv-loop μ-loop
 slice-read-wide-2 c = simp length-set (omega (arith, mark-lies _ _ _ _ (c .before .before .before .before .before .before .before .pre) (c .before .before .before .before .loop .inv) (c .before .before .before .loop-test .taken)))
 
--- src/scopes.rt:52:9
 wide-requires-3 : tie.Need-wide-requires-3 Inv-loop μ-loop
 wide-requires-3 c κs = search needs
 
--- src/scopes.rt:49:5
 loop-less : tie.Need-loop-less Inv-loop μ-loop
 loop-less c = mark-less _ _ _ _ (c .before .before .before .before .before .before .before .before .pre) (c .before .before .before .before .before .loop .inv) (c .before .before .before .before .loop-test .taken) _ (c .before .before .wide2 .ensures) _ (c .wide3 .ensures)
 
--- src/scopes.rt:49:5
 loop-again : tie.Need-loop-again Inv-loop μ-loop
 loop-again c = mark-more _ _ _ _ (c .before .before .before .before .before .before .before .before .pre) (c .before .before .before .before .before .loop .inv) (c .before .before .before .before .loop-test .taken) _ (c .before .before .wide2 .ensures) _ (c .wide3 .ensures)
 
--- src/scopes.rt:44:1
 same-length : tie.Need-same-length Inv-loop μ-loop
 same-length c = plain-length (c .before .loop .inv .plain)
 
--- src/scopes.rt:44:1
 returns : tie.Need-returns Inv-loop μ-loop
 returns c = mark-end _ _ _ _ (c .loop-test .left) (c .before .loop .inv)
 

@@ -5,9 +5,6 @@ use Rattle.symbols.proofs.Seeing.{plain-length, Opening, open-start, op
 use mathlib.Core.Logic.{⊎-elim}
 use Rattle.symbols.proofs.scopes.open_rows.Statement.{statement}
 use Rattle.symbols.proofs.scopes.open_rows.Tie as tie
-use Rattle.symbols.proofs.scopes.open_rows.Reads as reads
-use Rattle.symbols.proofs.scopes.open_rows.Lts as lts
-use Rattle.symbols.proofs.scopes.opens.Reads as opens-reads
 
 abbrev Inv-loop : tie.InvT-loop
 Inv-loop table₀ used k₀ table k = (k ≤ used) × Opening table₀ table k
@@ -15,50 +12,39 @@ Inv-loop table₀ used k₀ table k = (k ≤ used) × Opening table₀ table k
 abbrev μ-loop : tie.MeasureT-loop
 μ-loop table₀ used k₀ table k = used - k
 
--- src/scopes.rt:75:5
 loop-holds : tie.Need-loop-holds Inv-loop μ-loop
 loop-holds c = (omega arith, open-start _)
 
--- src/scopes.rt:76:12
 opens-requires : tie.Need-opens-requires Inv-loop μ-loop
 opens-requires c κs = open-linked _ _ _ _ (c .before .before .before .before .pre .0) (c .before .before .before .before .pre .1) (c .before .before .loop .inv .1) (c .before .before .loop .inv .0) (c .before .loop-test .taken)
 
--- src/scopes.rt:77:19
 mul-table : tie.Need-mul-table Inv-loop μ-loop
 mul-table c = omega (arith, c .before .before .before .before .before .before .pre .0 .most, open-lies _ _ _ _ (c .before .before .before .before .before .before .pre .0) (c .before .before .before .before .before .before .pre .1) (c .before .before .before .before .loop .inv .1) (c .before .before .before .before .loop .inv .0) (c .before .before .before .loop-test .taken) _ (c .before .opens .ensures))
 
--- src/scopes.rt:77:19
 add-table : tie.Need-add-table Inv-loop μ-loop
 add-table c = omega (arith, c .before .before .before .before .before .before .pre .0 .most, open-lies _ _ _ _ (c .before .before .before .before .before .before .pre .0) (c .before .before .before .before .before .before .pre .1) (c .before .before .before .before .loop .inv .1) (c .before .before .before .before .loop .inv .0) (c .before .before .before .loop-test .taken) _ (c .before .opens .ensures))
 
--- src/scopes.rt:77:13
 mul-table-2 : tie.Need-mul-table-2 Inv-loop μ-loop
 mul-table-2 c = omega (arith, c .before .before .before .before .before .before .pre .0 .most, open-lies _ _ _ _ (c .before .before .before .before .before .before .pre .0) (c .before .before .before .before .before .before .pre .1) (c .before .before .before .before .loop .inv .1) (c .before .before .before .before .loop .inv .0) (c .before .before .before .loop-test .taken) _ (c .before .opens .ensures))
 
--- src/scopes.rt:77:13
 slice-write-table : tie.Need-slice-write-table Inv-loop μ-loop
 slice-write-table c = omega (arith, c .before .before .before .before .before .before .pre .0 .most, open-lies _ _ _ _ (c .before .before .before .before .before .before .pre .0) (c .before .before .before .before .before .before .pre .1) (c .before .before .before .before .loop .inv .1) (c .before .before .before .before .loop .inv .0) (c .before .before .before .loop-test .taken) _ (c .before .opens .ensures))
 
--- src/scopes.rt:79:9
 add-k : tie.Need-add-k Inv-loop μ-loop
 add-k c = omega (arith, c .before .before .before .before .before .before .pre .0 .most, open-lies _ _ _ _ (c .before .before .before .before .before .before .pre .0) (c .before .before .before .before .before .before .pre .1) (c .before .before .before .before .loop .inv .1) (c .before .before .before .before .loop .inv .0) (c .before .before .before .loop-test .taken) _ (c .before .opens .ensures))
 
--- src/scopes.rt:75:5
 loop-less : tie.Need-loop-less Inv-loop μ-loop
 loop-less c = omega arith
 
--- src/scopes.rt:75:5
 loop-again : tie.Need-loop-again Inv-loop μ-loop
 loop-again c = ⊎-elim
     (λ w. (omega arith, rw (w .1) (open-more _ _ _ _ (c .before .before .before .before .before .before .pre .0) (c .before .before .before .before .before .before .pre .1) (c .before .before .before .before .loop .inv .1) (c .before .before .before .before .loop .inv .0) (c .before .before .before .loop-test .taken) _ (c .before .opens .ensures) (w .0 .taken))))
     (λ w. (omega arith, rw (w .1) (open-skip _ _ _ _ (c .before .before .before .before .before .before .pre .0) (c .before .before .before .before .before .before .pre .1) (c .before .before .before .before .loop .inv .1) (c .before .before .before .before .loop .inv .0) (c .before .before .before .loop-test .taken) _ (c .before .opens .ensures) (w .0 .left))))
     (c .if1 .came)
 
--- src/scopes.rt:69:1
 same-length : tie.Need-same-length Inv-loop μ-loop
 same-length c = plain-length (c .before .loop .inv .1 .plain)
 
--- src/scopes.rt:69:1
 returns : tie.Need-returns Inv-loop μ-loop
 returns c = open-end _ _ _ _ (c .before .before .before .pre .0) (c .before .before .before .pre .1) (c .before .loop .inv .1) (c .before .loop .inv .0) (c .loop-test .left)
 

@@ -5,72 +5,52 @@ use mathlib.Core.Path.{_∙_}
 use Rattle.symbols.proofs.Seeing.{opens-not, opens-if}
 use Rattle.symbols.proofs.scopes.opens.Statement.{statement}
 use Rattle.symbols.proofs.scopes.opens.Tie as tie
-use Rattle.symbols.proofs.scopes.opens.Reads as reads
-use Rattle.symbols.proofs.scopes.opens.Lts as lts
-use Rattle.symbols.proofs.names.wide.Reads as wide-reads
-use Rattle.symbols.proofs.scopes.is_open.Reads as is-open-reads
 
--- src/scopes.rt:61:28
 mul-wide : tie.Need-mul-wide
 mul-wide c = omega (arith, c .before .pre .most, c .before .pre .room)
 
--- src/scopes.rt:61:28
 add-wide : tie.Need-add-wide
 add-wide c = omega (arith, c .before .pre .most, c .before .pre .room)
 
--- src/scopes.rt:61:22
 mul-wide-2 : tie.Need-mul-wide-2
 mul-wide-2 c = omega (arith, c .before .pre .most, c .before .pre .room)
 
--- src/scopes.rt:61:22
 shared-slice-read-wide : tie.Need-shared-slice-read-wide
 shared-slice-read-wide c = omega (arith, c .before .before .pre .most, c .before .before .pre .room)
 
--- src/scopes.rt:61:9
 wide-requires : tie.Need-wide-requires
 wide-requires c κs = search needs
 
--- src/scopes.rt:62:14
 mul-if1 : tie.Need-mul-if1
 mul-if1 c = omega (arith, c .before .before .before .pre .most, c .before .before .before .pre .room, c .before .before .before .pre .before (c .before .before .before .args .k) (omega arith), c .wide .ensures)
 
--- src/scopes.rt:62:14
 add-if1 : tie.Need-add-if1
 add-if1 c = omega (arith, c .before .before .before .pre .most, c .before .before .before .pre .room, c .before .before .before .pre .before (c .before .before .before .args .k) (omega arith), c .wide .ensures)
 
--- src/scopes.rt:62:8
 mul-if1-2 : tie.Need-mul-if1-2
 mul-if1-2 c = omega (arith, c .before .before .before .pre .most, c .before .before .before .pre .room, c .before .before .before .pre .before (c .before .before .before .args .k) (omega arith), c .wide .ensures)
 
--- src/scopes.rt:62:8
 shared-slice-read-if1 : tie.Need-shared-slice-read-if1
 shared-slice-read-if1 c = omega (arith, c .before .before .before .before .pre .most, c .before .before .before .before .pre .room, c .before .before .before .before .pre .before (c .before .before .before .before .args .k) (omega arith), c .before .wide .ensures)
 
--- src/scopes.rt:63:9
 returns : tie.Need-returns
 returns c = opens-not _ _ _ _ (c .before .before .wide .ensures) (c .if1 .taken)
 
--- src/scopes.rt:65:26
 mul-is-open : tie.Need-mul-is-open
 mul-is-open c = omega (arith, c .before .before .before .before .before .pre .most, c .before .before .before .before .before .pre .room)
 
--- src/scopes.rt:65:26
 add-is-open : tie.Need-add-is-open
 add-is-open c = omega (arith, c .before .before .before .before .before .pre .most, c .before .before .before .before .before .pre .room)
 
--- src/scopes.rt:65:20
 mul-is-open-2 : tie.Need-mul-is-open-2
 mul-is-open-2 c = omega (arith, c .before .before .before .before .before .pre .most, c .before .before .before .before .before .pre .room)
 
--- src/scopes.rt:65:20
 shared-slice-read-is-open : tie.Need-shared-slice-read-is-open
 shared-slice-read-is-open c = omega (arith, c .before .before .before .before .before .before .pre .most, c .before .before .before .before .before .before .pre .room)
 
--- src/scopes.rt:65:5
 is-open-requires : tie.Need-is-open-requires
 is-open-requires c κs = omega (arith, c .before .before .before .before .before .before .pre .most, c .before .before .before .before .before .before .pre .room, c .before .before .before .before .before .before .pre .older (c .before .before .before .before .before .before .args .k) (omega arith))
 
--- src/scopes.rt:57:1
 returns-2 : tie.Need-returns-2
 returns-2 c = c .is-open .ensures ∙ opens-if _ _ _ _ (c .before .before .before .before .wide .ensures) (c .before .before .if1 .left)
 

@@ -4,75 +4,54 @@ use native.Mathlib.Omega.{arith}
 use mathlib.Core.Path.{refl}
 use Rattle.symbols.specs.Table.{rowsIn}
 use Rattle.translator.proofs.Rowing.{const-numbers, answered, const-row}
-use borrow.Author.Needs.{needs}
 use Rattle.translator.proofs.declarations.constant.Statement.{statement}
 use Rattle.translator.proofs.declarations.constant.Tie as tie
-use Rattle.translator.proofs.declarations.constant.Reads as reads
-use Rattle.translator.proofs.declarations.constant.Lts as lts
-use Rattle.symbols.proofs.enter.Reads as enter-reads
-use Rattle.translator.proofs.declarations.made.Reads as made-reads
 
--- src/declarations.rt:42:18
 add-t8 : tie.Need-add-t8
 add-t8 c = omega (arith, const-numbers (c .before .before .before .pre .1 .at) .fits, c .before .before .before .good)
 
--- src/declarations.rt:42:13
 mul-t9 : tie.Need-mul-t9
 mul-t9 c = omega (arith, const-numbers (c .before .before .before .pre .1 .at) .fits, c .before .before .before .good)
 
--- src/declarations.rt:42:13
 shared-slice-read-t11 : tie.Need-shared-slice-read-t11
 shared-slice-read-t11 c = omega (arith, const-numbers (c .before .before .before .before .pre .1 .at) .fits, c .before .before .before .before .good)
 
--- src/declarations.rt:43:19
 add-t12 : tie.Need-add-t12
 add-t12 c = omega (arith, const-numbers (c .before .before .before .before .pre .1 .at) .fits, c .before .before .before .before .good)
 
--- src/declarations.rt:43:14
 mul-t13 : tie.Need-mul-t13
 mul-t13 c = omega (arith, const-numbers (c .before .before .before .before .pre .1 .at) .fits, c .before .before .before .before .good)
 
--- src/declarations.rt:43:14
 shared-slice-read-t15 : tie.Need-shared-slice-read-t15
 shared-slice-read-t15 c = omega (arith, const-numbers (c .before .before .before .before .before .pre .1 .at) .fits, c .before .before .before .before .before .good)
 
--- src/declarations.rt:45:19
 add-t16 : tie.Need-add-t16
 add-t16 c = omega (arith, const-numbers (c .before .before .before .before .before .pre .1 .at) .fits, c .before .before .before .before .before .good)
 
--- src/declarations.rt:45:14
 mul-t17 : tie.Need-mul-t17
 mul-t17 c = omega (arith, const-numbers (c .before .before .before .before .before .pre .1 .at) .fits, c .before .before .before .before .before .good)
 
--- src/declarations.rt:45:14
 shared-slice-read-t19 : tie.Need-shared-slice-read-t19
 shared-slice-read-t19 c = omega (arith, const-numbers (c .before .before .before .before .before .before .pre .1 .at) .fits, c .before .before .before .before .before .before .good)
 
--- src/declarations.rt:46:20
 add-t20 : tie.Need-add-t20
 add-t20 c = omega (arith, const-numbers (c .before .before .before .before .before .before .pre .1 .at) .fits, c .before .before .before .before .before .before .good)
 
--- src/declarations.rt:46:15
 mul-t21 : tie.Need-mul-t21
 mul-t21 c = omega (arith, const-numbers (c .before .before .before .before .before .before .pre .1 .at) .fits, c .before .before .before .before .before .before .good)
 
--- src/declarations.rt:46:15
 shared-slice-read-t23 : tie.Need-shared-slice-read-t23
 shared-slice-read-t23 c = omega (arith, const-numbers (c .before .before .before .before .before .before .before .pre .1 .at) .fits, c .before .before .before .before .before .before .before .good)
 
--- src/declarations.rt:52:10
 enter-requires : tie.Need-enter-requires
 enter-requires c κs = record { sound = c .before .before .before .before .before .before .before .before .pre .0 .sound; named = const-numbers (c .before .before .before .before .before .before .before .before .pre .1 .at) .named; scoped = c .before .before .before .before .before .before .before .before .pre .0 .scoped }
 
--- src/declarations.rt:52:5
 made-requires : tie.Need-made-requires
 made-requires c κs = search needs
 
--- src/declarations.rt:36:1
 same-length : tie.Need-same-length
 same-length c = search needs
 
--- src/declarations.rt:36:1
 returns : tie.Need-returns
 returns c = const-row (rowsIn _ _ _) refl (answered _ _ (c .made .ensures) (c .before .before .before .enter .ensures))
 

@@ -3,96 +3,69 @@ use borrow.Author.Needs.{needs}
 use native.Mathlib.Omega.{arith}
 use Rattle.emission.specs.Drafting.{stops}
 use Rattle.translator.proofs.Rowing.{head-numbers, heading-stop, grown, inner-can, heading-made}
-use borrow.Author.Needs.{needs}
 use Rattle.translator.proofs.declarations.heading.Statement.{statement}
 use Rattle.translator.proofs.declarations.heading.Tie as tie
-use Rattle.translator.proofs.declarations.heading.Reads as reads
-use Rattle.translator.proofs.declarations.heading.Lts as lts
-use Rattle.symbols.proofs.enter.Reads as enter-reads
-use Rattle.translator.proofs.declarations.names_decl.Reads as names-decl-reads
-use Rattle.translator.proofs.declarations.made.Reads as made-reads
 
--- src/declarations.rt:175:18
 add-t11 : tie.Need-add-t11
 add-t11 c = omega (arith, head-numbers (c .before .before .before .pre .1 .1 .at) .fits, c .before .before .before .good)
 
--- src/declarations.rt:175:13
 mul-t12 : tie.Need-mul-t12
 mul-t12 c = omega (arith, head-numbers (c .before .before .before .pre .1 .1 .at) .fits, c .before .before .before .good)
 
--- src/declarations.rt:175:13
 shared-slice-read-t14 : tie.Need-shared-slice-read-t14
 shared-slice-read-t14 c = omega (arith, head-numbers (c .before .before .before .before .pre .1 .1 .at) .fits, c .before .before .before .before .good)
 
--- src/declarations.rt:176:19
 add-t15 : tie.Need-add-t15
 add-t15 c = omega (arith, head-numbers (c .before .before .before .before .pre .1 .1 .at) .fits, c .before .before .before .before .good)
 
--- src/declarations.rt:176:14
 mul-t16 : tie.Need-mul-t16
 mul-t16 c = omega (arith, head-numbers (c .before .before .before .before .pre .1 .1 .at) .fits, c .before .before .before .before .good)
 
--- src/declarations.rt:176:14
 shared-slice-read-t18 : tie.Need-shared-slice-read-t18
 shared-slice-read-t18 c = omega (arith, head-numbers (c .before .before .before .before .before .pre .1 .1 .at) .fits, c .before .before .before .before .before .good)
 
--- src/declarations.rt:182:20
 add-t19 : tie.Need-add-t19
 add-t19 c = omega (arith, head-numbers (c .before .before .before .before .before .pre .1 .1 .at) .fits, c .before .before .before .before .before .good)
 
--- src/declarations.rt:182:15
 mul-t20 : tie.Need-mul-t20
 mul-t20 c = omega (arith, head-numbers (c .before .before .before .before .before .pre .1 .1 .at) .fits, c .before .before .before .before .before .good)
 
--- src/declarations.rt:182:15
 shared-slice-read-t22 : tie.Need-shared-slice-read-t22
 shared-slice-read-t22 c = omega (arith, head-numbers (c .before .before .before .before .before .before .pre .1 .1 .at) .fits, c .before .before .before .before .before .before .good)
 
--- src/declarations.rt:185:18
 enter-requires : tie.Need-enter-requires
 enter-requires c κs = record { sound = c .before .before .before .before .before .before .before .pre .0 .sound; named = head-numbers (c .before .before .before .before .before .before .before .pre .1 .1 .at) .named; scoped = c .before .before .before .before .before .before .before .pre .0 .scoped }
 
--- src/declarations.rt:185:9
 made-requires : tie.Need-made-requires
 made-requires c κs = search needs
 
--- src/declarations.rt:186:18
 enum-known-r : tie.Need-enum-known-r
 enum-known-r c = search needs
 
--- src/declarations.rt:187:9
 enum-told : tie.Need-enum-told
 enum-told c = search needs
 
--- src/declarations.rt:187:9
 same-length : tie.Need-same-length
 same-length c = search needs
 
--- src/declarations.rt:187:9
 returns : tie.Need-returns
 returns c = heading-stop (c .before .before .before .before .before .before .before .before .before .before .before .before .before .args .text .now) (c .before .before .before .before .before .before .before .before .before .before .before .before .before .args .tree .now) (c .before .before .before .before .before .before .before .before .before .before .before .before .before .args .table .now) _ (c .before .before .before .before .before .before .before .before .before .before .before .before .before .args .i) (c .before .before .before .before .before .before .before .before .before .before .before .before .before .args .used) (c .before .before .before .before .before .before .before .before .before .before .before .before .before .args .f) (c .before .before .before .before .before .enter .result) (c .before .before .before .before .before .enter .ensures) (c .before .before .made .ensures) _ (stops (c .enum-told .given .1))
 
--- src/declarations.rt:190:16
 cast-t14 : tie.Need-cast-t14
 cast-t14 c = omega (arith, grown (c .before .before .before .before .before .before .before .before .before .before .before .before .before .before .args .text .now) (c .before .before .before .before .before .before .before .before .before .before .before .before .before .before .args .tree .now) (c .before .before .before .before .before .before .before .before .before .before .before .before .before .before .args .table .now) _ (c .before .before .before .before .before .before .before .before .before .before .before .before .before .before .args .i) (c .before .before .before .before .before .before .before .before .before .before .before .before .before .before .args .used) (c .before .before .before .before .before .before .before .before .before .before .before .before .before .before .args .f) (c .before .before .before .before .before .before .enter .result) (c .before .before .before .before .before .before .enter .ensures) (c .before .before .before .made .ensures) (c .before .r .given .1) .sound .linked .most)
 
--- src/declarations.rt:191:16
 add-t18 : tie.Need-add-t18
 add-t18 c = search needs
 
--- src/declarations.rt:194:20
 add-names-decl : tie.Need-add-names-decl
 add-names-decl c = omega (arith, head-numbers (c .before .before .before .before .before .before .before .before .before .before .before .before .before .before .before .pre .1 .1 .at) .fits, c .before .before .before .before .before .before .before .before .before .before .before .before .before .before .before .good)
 
--- src/declarations.rt:194:5
 names-decl-requires : tie.Need-names-decl-requires
 names-decl-requires c κs = (inner-can (c .before .before .before .before .before .before .before .before .before .before .before .before .before .before .before .before .args .text .now) (c .before .before .before .before .before .before .before .before .before .before .before .before .before .before .before .before .args .tree .now) (c .before .before .before .before .before .before .before .before .before .before .before .before .before .before .before .before .args .table .now) _ (c .before .before .before .before .before .before .before .before .before .before .before .before .before .before .before .before .args .i) (c .before .before .before .before .before .before .before .before .before .before .before .before .before .before .before .before .args .used) (c .before .before .before .before .before .before .before .before .before .before .before .before .before .before .before .before .args .f) (c .before .before .before .before .before .before .before .before .enter .result) (c .before .before .before .before .before .before .before .before .enter .ensures) (c .before .before .before .before .before .made .ensures) (c .before .before .before .r .given .1), record { list = c .before .before .before .before .before .before .before .before .before .before .before .before .before .before .before .before .pre .1 .1 .args; at = head-numbers (c .before .before .before .before .before .before .before .before .before .before .before .before .before .before .before .before .pre .1 .1 .at) .args-at })
 
--- src/declarations.rt:168:1
 same-length-2 : tie.Need-same-length-2
 same-length-2 c = search needs
 
--- src/declarations.rt:168:1
 returns-2 : tie.Need-returns-2
 returns-2 c = heading-made (c .before .before .before .before .before .before .before .before .before .before .before .before .before .before .before .before .before .before .before .args .text .now) (c .before .before .before .before .before .before .before .before .before .before .before .before .before .before .before .before .before .before .before .args .tree .now) (c .before .before .before .before .before .before .before .before .before .before .before .before .before .before .before .before .before .before .before .args .table .now) _ (c .before .before .before .before .before .before .before .before .before .before .before .before .before .before .before .before .before .before .before .args .i) (c .before .before .before .before .before .before .before .before .before .before .before .before .before .before .before .before .before .before .before .args .used) (c .before .before .before .before .before .before .before .before .before .before .before .before .before .before .before .before .before .before .before .args .f) (c .before .before .before .before .before .before .before .before .before .before .before .enter .result) (c .before .before .before .before .before .before .before .before .before .before .before .enter .ensures) (c .before .before .before .before .before .before .before .before .made .ensures) (c .before .before .before .before .before .before .r .given .1) (c .before .before .names-decl .ensures)
 

@@ -2,25 +2,18 @@
 use borrow.Author.Needs.{needs}
 use mathlib.Core.Path.{sym, ap}
 use Rattle.translator.specs.Rows.{madeOf}
-use borrow.Author.Needs.{needs}
 use Rattle.translator.proofs.declarations.made.Statement.{statement}
 use Rattle.translator.proofs.declarations.made.Tie as tie
-use Rattle.translator.proofs.declarations.made.Reads as reads
-use Rattle.translator.proofs.declarations.made.Lts as lts
 
--- src/declarations.rt:30:21
 enum-known-a : tie.Need-enum-known-a
 enum-known-a c = search needs
 
--- src/declarations.rt:31:24
 enum-known-a-2 : tie.Need-enum-known-a-2
 enum-known-a-2 c = search needs
 
--- src/declarations.rt:26:1
 returns : tie.Need-returns
 returns c = sym (ap madeOf (c .before .a .given .1))
 
--- src/declarations.rt:26:1
 returns-2 : tie.Need-returns-2
 returns-2 c = sym (ap madeOf (c .before .a2 .given .1))
 

@@ -4,50 +4,34 @@ use mathlib.Core.Path.{ap}
 use Rattle.symbols.specs.declared.Symbol.{Symbol}
 use Rattle.symbols.specs.Table.{rowsIn}
 use Rattle.translator.proofs.Rowing.{answered, name-row, var-declares, no-procedure}
-use borrow.Author.Needs.{needs}
 use Rattle.tree.specs.Parts.{name-in}
 use Rattle.translator.proofs.declarations.name_decl.Statement.{statement}
 use Rattle.translator.proofs.declarations.name_decl.Tie as tie
-use Rattle.translator.proofs.declarations.name_decl.Reads as reads
-use Rattle.translator.proofs.declarations.name_decl.Lts as lts
-use Rattle.symbols.proofs.add.Reads as add-reads
-use Rattle.symbols.proofs.enter.Reads as enter-reads
-use Rattle.translator.proofs.declarations.made.Reads as made-reads
-use Rattle.translator.proofs.declarations.variable.Reads as variable-reads
 
--- src/declarations.rt:91:9
 variable-requires : tie.Need-variable-requires
 variable-requires c κs = name-in (c .before .before .before .pre .1 .at) .1
 
--- src/declarations.rt:93:21
 enter-requires : tie.Need-enter-requires
 enter-requires c κs = var-declares (c .before .before .variable .ensures) (c .before .before .before .before .before .before .pre .0) (c .before .before .before .before .before .before .pre .1)
 
--- src/declarations.rt:93:9
 made-requires : tie.Need-made-requires
 made-requires c κs = search needs
 
--- src/declarations.rt:93:9
 same-length : tie.Need-same-length
 same-length c = search needs
 
--- src/declarations.rt:93:9
 returns : tie.Need-returns
 returns c = name-row (rowsIn _ _ _) (c .before .before .before .before .before .if1 .taken) (c .before .before .before .before .before .before .variable .ensures) (answered _ _ (c .made .ensures) (c .before .before .before .enter .ensures))
 
--- src/declarations.rt:95:10
 add-requires : tie.Need-add-requires
 add-requires c κs = (var-declares (c .before .before .variable .ensures) (c .before .before .before .before .before .before .pre .0) (c .before .before .before .before .before .before .pre .1), no-procedure _ (ap (λ (y : Symbol). y .kind) (c .before .before .variable .ensures)))
 
--- src/declarations.rt:95:5
 made-requires-2 : tie.Need-made-requires-2
 made-requires-2 c κs = search needs
 
--- src/declarations.rt:78:1
 same-length-2 : tie.Need-same-length-2
 same-length-2 c = search needs
 
--- src/declarations.rt:78:1
 returns-2 : tie.Need-returns-2
 returns-2 c = name-row (rowsIn _ _ _) (c .before .before .before .before .before .if1 .left) (c .before .before .before .before .before .before .variable .ensures) (answered _ _ (c .made2 .ensures) (c .before .before .before .add .ensures))
 

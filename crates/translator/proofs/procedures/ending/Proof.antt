@@ -4,43 +4,30 @@ use native.Mathlib.Omega.{arith}
 use mathlib.Core.Path.{_∙_}
 use Rattle.emission.specs.Drafting.{wrote-at, stops}
 use Rattle.translator.proofs.Ending.{sta-stop, sta-made}
-use borrow.Author.Needs.{needs}
 use Rattle.translator.proofs.procedures.ending.Statement.{statement}
 use Rattle.translator.proofs.procedures.ending.Tie as tie
-use Rattle.translator.proofs.procedures.ending.Reads as reads
-use Rattle.translator.proofs.procedures.ending.Lts as lts
-use Rattle.translator.proofs.procedures.finish.Reads as finish-reads
-use Rattle.translator.proofs.procedures.stas.Reads as stas-reads
 
--- src/procedures.rt:87:9
 stas-requires : tie.Need-stas-requires
 stas-requires c κs = (c .before .before .before .before .before .pre .0 .room, (c .before .before .before .before .before .pre .0 .most, c .before .before .before .before .before .pre .1 .1))
 
--- src/procedures.rt:88:18
 enum-known-a : tie.Need-enum-known-a
 enum-known-a c = search needs
 
--- src/procedures.rt:89:9
 enum-told : tie.Need-enum-told
 enum-told c = search needs
 
--- src/procedures.rt:89:9
 same-length : tie.Need-same-length
 same-length c = search needs
 
--- src/procedures.rt:89:9
 returns : tie.Need-returns
 returns c = sta-stop _ _ _ (c .before .before .before .before .stas .ensures) _ (stops (c .enum-told .given .1))
 
--- src/procedures.rt:91:5
 finish-requires : tie.Need-finish-requires
 finish-requires c κs = (record { known = c .before .before .before .before .before .before .before .before .before .before .before .before .pre .0 .known; room = omega (arith, c .before .before .before .before .before .before .before .before .before .before .before .before .pre .0 .room, c .before .before .before .before .before .before .stas .kept .0); most = wrote-at (c .before .before .a .given .1) (c .before .before .before .before .before .before .stas .ensures) .most }, c .before .before .before .before .before .before .before .before .before .before .before .before .pre .1 .0)
 
--- src/procedures.rt:81:1
 same-length-2 : tie.Need-same-length-2
 same-length-2 c = c .before .before .finish .kept .1 .1 .1 .1 .1 .1 .0 ∙ c .before .before .before .before .before .before .before .before .before .stas .kept .0
 
--- src/procedures.rt:81:1
 returns-2 : tie.Need-returns-2
 returns-2 c = sta-made _ _ _ (c .before .before .before .before .before .before .before .before .before .stas .ensures) (c .before .before .before .before .before .before .before .before .before .before .before .before .before .before .before .pre .0 .most) (c .before .before .before .before .before .a .given .1) (c .before .before .finish .ensures)
 

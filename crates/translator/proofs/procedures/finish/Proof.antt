@@ -6,65 +6,47 @@ use Rattle.pcode.specs.Code.{INT, OPR}
 use Rattle.emission.specs.Drafting.{stops}
 use Rattle.emission.specs.Jumps.{one}
 use Rattle.translator.proofs.Ending.{has-stmt, is-body, int-stop, body-stop, body-made}
-use borrow.Author.Needs.{needs}
 use Rattle.translator.proofs.procedures.finish.Statement.{statement}
 use Rattle.translator.proofs.procedures.finish.Tie as tie
-use Rattle.translator.proofs.procedures.finish.Reads as reads
-use Rattle.translator.proofs.procedures.finish.Lts as lts
-use Rattle.emission.proofs.emit.Reads as emit-reads
-use Rattle.emission.proofs.statements.body.Reads as body-reads
 
--- src/procedures.rt:69:9
 emit-requires : tie.Need-emit-requires
 emit-requires c κs = c .before .before .before .before .before .pre .0 .room
 
--- src/procedures.rt:70:18
 enum-known-a : tie.Need-enum-known-a
 enum-known-a c = search needs
 
--- src/procedures.rt:71:9
 enum-told : tie.Need-enum-told
 enum-told c = search needs
 
--- src/procedures.rt:71:9
 same-length : tie.Need-same-length
 same-length c = search needs
 
--- src/procedures.rt:71:9
 returns : tie.Need-returns
 returns c = int-stop _ _ (c .before .before .before .before .emit .ensures INT refl) _ (stops (c .enum-told .given .1))
 
--- src/procedures.rt:73:9
 body-requires : tie.Need-body-requires
 body-requires c κs =
     let w = one (c .before .before .a .given .1) (c .before .before .before .before .before .before .emit .ensures INT refl) in
     (record { known = c .before .before .before .before .before .before .before .before .before .before .before .before .pre .0 .known; room = omega (arith, c .before .before .before .before .before .before .before .before .before .before .before .before .pre .0 .room, c .before .before .before .before .before .before .emit .kept .0); most = omega (arith, w .below, w .ends) }, (has-stmt (c .before .before .before .before .before .before .before .before .before .before .before .before .pre .1), is-body (c .before .before .before .before .before .before .before .before .before .before .before .before .pre .1)))
 
--- src/procedures.rt:74:18
 enum-known-b : tie.Need-enum-known-b
 enum-known-b c = search needs
 
--- src/procedures.rt:75:9
 enum-told-2 : tie.Need-enum-told-2
 enum-told-2 c = search needs
 
--- src/procedures.rt:75:9
 same-length-2 : tie.Need-same-length-2
 same-length-2 c = c .before .before .before .before .body .kept .1 .1 .1 .1 .1 .0 ∙ c .before .before .before .before .before .before .before .before .before .before .before .emit .kept .0
 
--- src/procedures.rt:75:9
 returns-2 : tie.Need-returns-2
 returns-2 c = body-stop _ _ (c .before .before .before .before .before .before .before .before .before .before .before .emit .ensures INT refl) (c .before .before .before .before .before .before .before .before .before .before .before .before .before .before .before .before .before .pre .0 .most) (c .before .before .before .before .before .before .before .a .given .1) (c .before .before .before .before .body .ensures) _ (stops (c .enum-told2 .given .1))
 
--- src/procedures.rt:77:5
 emit-requires-2 : tie.Need-emit-requires-2
 emit-requires-2 c κs = omega (arith, c .before .before .before .before .before .before .before .before .before .before .before .before .before .before .before .before .before .before .before .pre .0 .room, c .before .before .before .before .before .before .before .before .before .before .before .before .before .emit .kept .0, c .before .before .before .before .before .before .body .kept .1 .1 .1 .1 .1 .0)
 
--- src/procedures.rt:64:1
 same-length-3 : tie.Need-same-length-3
 same-length-3 c = c .before .before .emit2 .kept .0 ∙ c .before .before .before .before .before .before .before .before .before .body .kept .1 .1 .1 .1 .1 .0 ∙ c .before .before .before .before .before .before .before .before .before .before .before .before .before .before .before .before .emit .kept .0
 
--- src/procedures.rt:64:1
 returns-3 : tie.Need-returns-3
 returns-3 c = body-made _ _ (c .before .before .before .before .before .before .before .before .before .before .before .before .before .before .before .before .emit .ensures INT refl) (c .before .before .before .before .before .before .before .before .before .before .before .before .before .before .before .before .before .before .before .before .before .before .pre .0 .most) (c .before .before .before .before .before .before .before .before .before .before .before .before .a .given .1) (c .before .before .before .before .before .before .before .before .before .body .ensures) (c .before .before .before .before .before .b .given .1) (c .before .before .emit2 .ensures OPR refl)
 

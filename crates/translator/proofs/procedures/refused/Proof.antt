@@ -2,25 +2,18 @@
 use borrow.Author.Needs.{needs}
 use mathlib.Core.Path.{sym, ap}
 use Rattle.translator.specs.Blocks.{refusedOf}
-use borrow.Author.Needs.{needs}
 use Rattle.translator.proofs.procedures.refused.Statement.{statement}
 use Rattle.translator.proofs.procedures.refused.Tie as tie
-use Rattle.translator.proofs.procedures.refused.Reads as reads
-use Rattle.translator.proofs.procedures.refused.Lts as lts
 
--- src/procedures.rt:39:24
 enum-told : tie.Need-enum-told
 enum-told c = search needs
 
--- src/procedures.rt:40:23
 enum-known-m : tie.Need-enum-known-m
 enum-known-m c = search needs
 
--- src/procedures.rt:35:1
 returns : tie.Need-returns
 returns c = sym (ap refusedOf (c .enum-told .given .1))
 
--- src/procedures.rt:35:1
 returns-2 : tie.Need-returns-2
 returns-2 c = sym (ap refusedOf (c .before .m .given .1))
 

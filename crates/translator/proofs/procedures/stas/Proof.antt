@@ -10,9 +10,6 @@ use Rattle.emission.specs.Drafting.{Sofar, stops}
 use Rattle.translator.proofs.Ending.{left, stas-start, stas-stop, stas-more, stas-done}
 use Rattle.translator.proofs.procedures.stas.Statement.{statement}
 use Rattle.translator.proofs.procedures.stas.Tie as tie
-use Rattle.translator.proofs.procedures.stas.Reads as reads
-use Rattle.translator.proofs.procedures.stas.Lts as lts
-use Rattle.emission.proofs.emit.Reads as emit-reads
 
 abbrev Inv-loop : tie.InvT-loop
 Inv-loop draft₀ n count m₀ i₀ draft m i = (length draft ≡ length draft₀) × ((1 ≤ i) × ((i ≤ count + 1) × Sofar (stas count 1 count) n draft₀ (left count i) m draft))
@@ -20,55 +17,42 @@ Inv-loop draft₀ n count m₀ i₀ draft m i = (length draft ≡ length draft�
 abbrev μ-loop : tie.MeasureT-loop
 μ-loop draft₀ n count m₀ i₀ draft m i = count + 1 - i
 
--- src/procedures.rt:52:5
 loop-holds : tie.Need-loop-holds Inv-loop μ-loop
 loop-holds c = (refl, (omega arith, (omega arith, stas-start _ _ _ (c .before .pre .1 .0))))
 
--- src/procedures.rt:53:40
 add-emit : tie.Need-add-emit Inv-loop μ-loop
 add-emit c = omega (arith, c .before .before .before .before .pre .1 .1, c .before .loop-test .taken)
 
--- src/procedures.rt:53:40
 sub-emit : tie.Need-sub-emit Inv-loop μ-loop
 sub-emit c = omega (arith, c .before .before .before .before .pre .1 .1, c .before .loop-test .taken)
 
--- src/procedures.rt:53:13
 emit-requires : tie.Need-emit-requires Inv-loop μ-loop
 emit-requires c κs = omega (arith, c .before .before .before .before .pre .0, c .before .before .loop .inv .0)
 
--- src/procedures.rt:54:22
 enum-known-r : tie.Need-enum-known-r Inv-loop μ-loop
 enum-known-r c = search needs
 
--- src/procedures.rt:55:13
 enum-told : tie.Need-enum-told Inv-loop μ-loop
 enum-told c = search needs
 
--- src/procedures.rt:55:13
 same-length : tie.Need-same-length Inv-loop μ-loop
 same-length c = c .before .before .before .before .emit .kept .0 ∙ c .before .before .before .before .before .before .before .loop .inv .0
 
--- src/procedures.rt:55:13
 returns : tie.Need-returns Inv-loop μ-loop
 returns c = stas-stop _ (c .before .before .before .before .before .before .before .loop .inv .1 .1 .1) _ (c .before .before .before .before .before .before .loop-test .taken) (stops (c .enum-told .given .1)) (c .before .before .before .before .emit .ensures STA refl)
 
--- src/procedures.rt:58:9
 add-i : tie.Need-add-i Inv-loop μ-loop
 add-i c = omega (arith, c .before .before .before .before .before .before .before .before .before .before .pre .1 .1, c .before .before .before .before .before .before .before .loop-test .taken)
 
--- src/procedures.rt:52:5
 loop-less : tie.Need-loop-less Inv-loop μ-loop
 loop-less c = omega (arith, c .before .before .before .before .before .before .before .loop-test .taken)
 
--- src/procedures.rt:52:5
 loop-again : tie.Need-loop-again Inv-loop μ-loop
 loop-again c = (c .before .before .before .before .before .emit .kept .0 ∙ c .before .before .before .before .before .before .before .before .loop .inv .0, (omega arith, (omega (arith, c .before .before .before .before .before .before .before .loop-test .taken), stas-more _ (c .before .before .before .before .before .before .before .before .loop .inv .1 .1 .1) (c .before .before .before .before .before .before .before .loop-test .taken) (c .before .r .given .1) (c .before .before .before .before .before .emit .ensures STA refl))))
 
--- src/procedures.rt:45:1
 same-length-2 : tie.Need-same-length-2 Inv-loop μ-loop
 same-length-2 c = c .before .loop .inv .0
 
--- src/procedures.rt:45:1
 returns-2 : tie.Need-returns-2 Inv-loop μ-loop
 returns-2 c = stas-done _ (c .before .loop .inv .1 .1 .1) (c .loop-test .left)
 

@@ -11,79 +11,55 @@ use Rattle.walk.proofs.Exps.{cond-stop, cond-odd, cond-rel}
 use borrow.Author.Needs.{needs}
 use Rattle.walk.proofs.expressions.cond.Statement.{statement}
 use Rattle.walk.proofs.expressions.cond.Tie as tie
-use Rattle.walk.proofs.expressions.cond.Reads as reads
-use Rattle.walk.proofs.expressions.cond.Lts as lts
-use Rattle.numbers.proofs.arithmetic.remainder.Reads as remainder-reads
-use Rattle.tree.proofs.after.Reads as after-reads
-use Rattle.walk.proofs.expressions.exp.Reads as exp-reads
-use Rattle.walk.proofs.expressions.related.Reads as related-reads
-use Rattle.walk.proofs.expressions.settle.Reads as settle-reads
 
--- src/expressions.rt:271:23
 add-exp : tie.Need-add-exp
 add-exp c = omega (arith, cond-fits (c .before .before .before .pre .1 .at), c .before .before .before .good)
 
--- src/expressions.rt:271:9
 exp-requires : tie.Need-exp-requires
 exp-requires c κs = (c .before .before .before .pre .0, cond-first (c .before .before .before .pre .1 .cond) (c .before .before .before .pre .1 .at))
 
--- src/expressions.rt:272:23
 enum-known-r : tie.Need-enum-known-r
 enum-known-r c = search needs
 
--- src/expressions.rt:273:9
 enum-told : tie.Need-enum-told
 enum-told c = search needs
 
--- src/expressions.rt:273:9
 returns : tie.Need-returns
 returns c = cond-stop _ _ _ _ _ _ (c .before .before .before .before .before .before .args .c) (c .before .before .exp .ensures) (c .enum-told .given .1)
 
--- src/expressions.rt:275:8
 mul-if1 : tie.Need-mul-if1
 mul-if1 c = omega (arith, cond-fits (c .before .before .before .before .before .before .before .pre .1 .at), c .before .before .before .before .before .before .before .good)
 
--- src/expressions.rt:275:8
 shared-slice-read-if1 : tie.Need-shared-slice-read-if1
 shared-slice-read-if1 c = omega (arith, cond-fits (c .before .before .before .before .before .before .before .before .pre .1 .at), c .before .before .before .before .before .before .before .before .good)
 
--- src/expressions.rt:276:37
 remainder-requires : tie.Need-remainder-requires
 remainder-requires c κs = search needs
 
--- src/expressions.rt:276:9
 settle-requires : tie.Need-settle-requires
 settle-requires c κs = search needs
 
--- src/expressions.rt:276:9
 returns-2 : tie.Need-returns-2
 returns-2 c = cond-odd _ _ _ _ _ _ (c .before .before .before .before .before .before .before .before .before .before .before .args .c) (c .before .before .before .before .before .before .before .exp .ensures) (c .before .before .before .before .before .r .given .1) (c .before .before .if1 .taken) _ (ap val (toZ-ofZ w64 _ (sfits-of (c .before .remainder .ok))) ∙ plain oddness (c .before .before .before .before .before .r .given .0 .0) (sfits-of (c .before .before .before .before .known-told .given .0 .1)) (c .before .remainder .ensures)) (c .settle .ensures)
 
--- src/expressions.rt:278:37
 add-after : tie.Need-add-after
 add-after c = omega (arith, cond-fits (c .before .before .before .before .before .before .before .before .before .pre .1 .at), c .before .before .before .before .before .before .before .before .before .good)
 
--- src/expressions.rt:278:19
 after-requires : tie.Need-after-requires
 after-requires c κs = (_, cond-first (c .before .before .before .before .before .before .before .before .before .pre .1 .cond) (c .before .before .before .before .before .before .before .before .before .pre .1 .at) .at .stands)
 
--- src/expressions.rt:278:50
 add-related : tie.Need-add-related
 add-related c = omega (arith, cond-fits (c .before .before .before .before .before .before .before .before .before .before .pre .1 .at), c .before .before .before .before .before .before .before .before .before .before .good)
 
--- src/expressions.rt:278:45
 mul-related : tie.Need-mul-related
 mul-related c = omega (arith, cond-fits (c .before .before .before .before .before .before .before .before .before .before .pre .1 .at), c .before .before .before .before .before .before .before .before .before .before .good)
 
--- src/expressions.rt:278:45
 shared-slice-read-related : tie.Need-shared-slice-read-related
 shared-slice-read-related c = omega (arith, cond-fits (c .before .before .before .before .before .before .before .before .before .before .before .pre .1 .at), c .before .before .before .before .before .before .before .before .before .before .before .good)
 
--- src/expressions.rt:278:5
 related-requires : tie.Need-related-requires
 related-requires c κs = (c .before .before .before .before .before .before .before .before .before .before .before .pre .0, has-right (c .before .before .if1 .left) (c .before .after .ensures) (c .before .before .before .before .before .before .before .before .before .before .before .pre .1))
 
--- src/expressions.rt:266:1
 returns-3 : tie.Need-returns-3
 returns-3 c = cond-rel _ _ _ _ _ _ (c .before .before .before .before .before .before .before .before .before .before .before .before .args .c) (c .before .before .before .before .before .before .before .before .exp .ensures) (c .before .before .before .before .before .before .r .given .1) (c .before .before .before .if1 .left) _ (toZ-ofZ w64 _ (sfits-of (c .before .before .before .before .before .known-told .given .0 .1))) (c .before .before .after .ensures) (c .related .ensures)
 

@@ -6,45 +6,30 @@ use Rattle.numbers.specs.Arithmetic.{arith, add, sub, mul, div}
 use Rattle.numbers.specs.Answers.{valOf}
 use Rattle.numbers.proofs.Bits.{plain-2}
 use Rattle.walk.proofs.Operators.{by-arith}
-use borrow.Author.Needs.{needs}
 use Rattle.walk.proofs.expressions.operate.Statement.{statement}
 use Rattle.walk.proofs.expressions.operate.Tie as tie
-use Rattle.walk.proofs.expressions.operate.Reads as reads
-use Rattle.walk.proofs.expressions.operate.Lts as lts
-use Rattle.numbers.proofs.arithmetic.add.Reads as add-reads
-use Rattle.numbers.proofs.arithmetic.div.Reads as div-reads
-use Rattle.numbers.proofs.arithmetic.mul.Reads as mul-reads
-use Rattle.numbers.proofs.arithmetic.sub.Reads as sub-reads
 
--- src/expressions.rt:155:9
 add-requires : tie.Need-add-requires
 add-requires c κs = search needs
 
--- src/expressions.rt:155:9
 returns : tie.Need-returns
 returns c = by-arith (λ o. valOf (c .add .result) ≡ arith o (c .before .before .args .x) (c .before .before .args .y)) _ (λ e. plain-2 (arith add) _ _ (c .before .before .fits .x) (c .before .before .fits .y) (c .add .ensures)) (λ e. absurd (omega (linear, c .before .if1 .taken, e))) (λ e. absurd (omega (linear, c .before .if1 .taken, e))) (λ e. absurd (omega (linear, c .before .if1 .taken, e)))
 
--- src/expressions.rt:158:9
 sub-requires : tie.Need-sub-requires
 sub-requires c κs = search needs
 
--- src/expressions.rt:158:9
 returns-2 : tie.Need-returns-2
 returns-2 c = by-arith (λ o. valOf (c .sub .result) ≡ arith o (c .before .before .before .args .x) (c .before .before .before .args .y)) _ (λ e. absurd (c .before .before .if1 .left e)) (λ e. plain-2 (arith sub) _ _ (c .before .before .before .fits .x) (c .before .before .before .fits .y) (c .sub .ensures)) (λ e. absurd (omega (linear, c .before .if2 .taken, e))) (λ e. absurd (omega (linear, c .before .if2 .taken, e)))
 
--- src/expressions.rt:161:9
 mul-requires : tie.Need-mul-requires
 mul-requires c κs = search needs
 
--- src/expressions.rt:161:9
 returns-3 : tie.Need-returns-3
 returns-3 c = by-arith (λ o. valOf (c .mul .result) ≡ arith o (c .before .before .before .before .args .x) (c .before .before .before .before .args .y)) _ (λ e. absurd (c .before .before .before .if1 .left e)) (λ e. absurd (c .before .before .if2 .left e)) (λ e. plain-2 (arith mul) _ _ (c .before .before .before .before .fits .x) (c .before .before .before .before .fits .y) (c .mul .ensures)) (λ e. absurd (omega (linear, c .before .if3 .taken, e)))
 
--- src/expressions.rt:163:5
 div-requires : tie.Need-div-requires
 div-requires c κs = search needs
 
--- src/expressions.rt:151:1
 returns-4 : tie.Need-returns-4
 returns-4 c = by-arith (λ o. valOf (c .div .result) ≡ arith o (c .before .before .before .before .args .x) (c .before .before .before .before .args .y)) _ (λ e. absurd (c .before .before .before .if1 .left e)) (λ e. absurd (c .before .before .if2 .left e)) (λ e. absurd (c .before .if3 .left e)) (λ e. plain-2 (arith div) _ _ (c .before .before .before .before .fits .x) (c .before .before .before .before .fits .y) (c .div .ensures))
 

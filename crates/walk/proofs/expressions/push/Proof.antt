@@ -3,29 +3,21 @@ use borrow.Author.Needs.{needs}
 use mir.Syntax.{w64}
 use mir.ValLaws.{toZ-ofZ}
 use Rattle.walk.proofs.Steps.{push-spent, push-full, push-on}
-use borrow.Author.Needs.{needs}
 use Rattle.walk.proofs.expressions.push.Statement.{statement}
 use Rattle.walk.proofs.expressions.push.Tie as tie
-use Rattle.walk.proofs.expressions.push.Reads as reads
-use Rattle.walk.proofs.expressions.push.Lts as lts
 
--- src/expressions.rt:68:9
 returns : tie.Need-returns
 returns c = λ w t. push-spent _ (c .before .before .args .c) w t _ (c .if1 .taken)
 
--- src/expressions.rt:74:23
 sub-t4 : tie.Need-sub-t4
 sub-t4 c = search needs
 
--- src/expressions.rt:75:22
 add-t5 : tie.Need-add-t5
 add-t5 c = search needs
 
--- src/expressions.rt:71:9
 returns-2 : tie.Need-returns-2
 returns-2 c = λ w t. push-on _ (c .before .before .before .before .before .before .args .c) w t _ (toZ-ofZ w64 _ (c .before .before .before .before .before .before .fits .z)) (c .before .before .before .before .if1 .left) (c .before .before .if2 .taken)
 
--- src/expressions.rt:64:1
 returns-3 : tie.Need-returns-3
 returns-3 c = λ w t. push-full _ (c .before .before .before .before .args .c) w t _ (c .before .before .if1 .left) (c .if2 .left)
 

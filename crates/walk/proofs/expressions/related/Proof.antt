@@ -12,48 +12,33 @@ use Rattle.walk.proofs.Exps.{gives-stop, went, on-two}
 use borrow.Author.Needs.{needs}
 use Rattle.walk.proofs.expressions.related.Statement.{statement}
 use Rattle.walk.proofs.expressions.related.Tie as tie
-use Rattle.walk.proofs.expressions.related.Reads as reads
-use Rattle.walk.proofs.expressions.related.Lts as lts
-use Rattle.numbers.proofs.arithmetic.flag_of.Reads as flag-of-reads
-use Rattle.walk.proofs.expressions.compare.Reads as compare-reads
-use Rattle.walk.proofs.expressions.exp.Reads as exp-reads
-use Rattle.walk.proofs.expressions.settle.Reads as settle-reads
 
--- src/expressions.rt:287:9
 exp-requires : tie.Need-exp-requires
 exp-requires c κs = (c .before .before .before .pre .0, c .before .before .before .pre .1)
 
--- src/expressions.rt:288:23
 enum-known-r : tie.Need-enum-known-r
 enum-known-r c = search needs
 
--- src/expressions.rt:289:9
 enum-told : tie.Need-enum-told
 enum-told c = search needs
 
--- src/expressions.rt:289:9
 returns : tie.Need-returns
 returns c = λ o t e a w sh. gives-stop (c .enum-told .given .1) (c .before .before .exp .ensures t a w sh) (λ y. onTwo (compared o (c .before .before .before .before .before .before .args .x) y))
 
--- src/expressions.rt:291:36
 compare-requires : tie.Need-compare-requires
 compare-requires c κs = search needs
 
--- src/expressions.rt:291:9
 flag-of-requires : tie.Need-flag-of-requires
 flag-of-requires c κs = search needs
 
--- src/expressions.rt:292:33
 sub-settle : tie.Need-sub-settle
 sub-settle c =
     let o = some-state _ (c .before .before .before .before .before .before .before .before .before .before .args .env) (c .before .before .before .before .before .before .before .before .before .before .args .c) (c .before .before .before .before .before .before .before .before .before .before .pre .0 .room) in
     omega (arith, went (c .before .before .before .before .r .given .1) (c .before .before .before .before .before .before .exp .ensures _ (c .before .before .before .before .before .before .before .before .before .before .pre .1 .at) (o .0) (o .1)) .top)
 
--- src/expressions.rt:292:5
 settle-requires : tie.Need-settle-requires
 settle-requires c κs = search needs
 
--- src/expressions.rt:282:1
 returns-2 : tie.Need-returns-2
 returns-2 c = λ o t e a w sh. on-two (c .before .before .before .before .before .r .given .1) (c .before .before .before .before .before .before .before .exp .ensures t a w sh) (compared o (c .before .before .before .before .before .before .before .before .before .before .before .args .x)) _ (ap val (toZ-ofZ w64 _ (sfits-of (c .before .before .flag-of .ok)) ∙ c .before .before .flag-of .ensures ∙ ap flag (plain-2 (compare o) (c .before .before .before .before .before .before .before .before .before .before .before .args .x) (c .before .before .before .before .before .r .given .0 .0) (c .before .before .before .before .before .before .before .before .before .before .before .fits .x) (sfits-of (c .before .before .before .before .known-told .given .0 .1)) (c .before .before .before .compare .ensures o e)))) refl (c .settle .ensures)
 

@@ -7,22 +7,16 @@ use Rattle.walk.proofs.Cells.{cell-read, cell-none}
 use borrow.Author.Needs.{needs}
 use Rattle.walk.proofs.expressions.variable.Statement.{statement}
 use Rattle.walk.proofs.expressions.variable.Tie as tie
-use Rattle.walk.proofs.expressions.variable.Reads as reads
-use Rattle.walk.proofs.expressions.variable.Lts as lts
 
--- src/expressions.rt:125:16
 mul-result : tie.Need-mul-result
 mul-result c = search needs
 
--- src/expressions.rt:125:16
 shared-slice-copy-out-result : tie.Need-shared-slice-copy-out-result
 shared-slice-copy-out-result c = search needs
 
--- src/expressions.rt:125:9
 returns : tie.Need-returns
 returns c = λ vs d. toZ-ofZ w64 _ (sfits-of (c .result .given)) ∙ cell-read _ _ _ (c .before .if1 .taken) vs d
 
--- src/expressions.rt:120:1
 returns-2 : tie.Need-returns-2
 returns-2 c = λ vs d. cell-none _ _ _ (c .if1 .left) vs d
 

@@ -1,34 +1,24 @@
 -- The proof of `stopped`.
 use borrow.Author.Needs.{needs}
 use Rattle.walk.proofs.Ends.{not-stopped, stopped-is}
-use borrow.Author.Needs.{needs}
 use Rattle.walk.proofs.progress.stopped.Statement.{statement}
 use Rattle.walk.proofs.progress.stopped.Tie as tie
-use Rattle.walk.proofs.progress.stopped.Reads as reads
-use Rattle.walk.proofs.progress.stopped.Lts as lts
-use Rattle.walk.proofs.progress.at_clock.Reads as at-clock-reads
 
--- src/progress.rt:40:26
 enum-known-r : tie.Need-enum-known-r
 enum-known-r c = search needs
 
--- src/progress.rt:40:46
 at-clock-requires : tie.Need-at-clock-requires
 at-clock-requires c κs = search needs
 
--- src/progress.rt:41:25
 enum-known-r-2 : tie.Need-enum-known-r-2
 enum-known-r-2 c = search needs
 
--- src/progress.rt:41:54
 at-clock-requires-2 : tie.Need-at-clock-requires-2
 at-clock-requires-2 c κs = search needs
 
--- src/progress.rt:36:1
 returns : tie.Need-returns
 returns c = λ k d e. not-stopped (c .before .before .r .given .1) e
 
--- src/progress.rt:36:1
 returns-2 : tie.Need-returns-2
 returns-2 c = λ k d e. stopped-is (c .before .before .before .before .args .p) k d (c .before .before .r2 .given .1) (c .at-clock2 .ensures) e
 

@@ -4,26 +4,18 @@ use mathlib.Core.Path.{refl, ap}
 use Rattle.walk.specs.declared.progress.Outcome.the-variants.{Done}
 use Rattle.walk.specs.Walk.{atTop}
 use Rattle.walk.proofs.Ends.{spent, step-done, ends-at}
-use borrow.Author.Needs.{needs}
 use Rattle.walk.proofs.progress.tick.Statement.{statement}
 use Rattle.walk.proofs.progress.tick.Tie as tie
-use Rattle.walk.proofs.progress.tick.Reads as reads
-use Rattle.walk.proofs.progress.tick.Lts as lts
-use Rattle.walk.proofs.progress.at_clock.Reads as at-clock-reads
 
--- src/progress.rt:51:9
 returns : tie.Need-returns
 returns c = λ e input lv lo vars out w h. spent h (atTop (c .before .before .before .args .top) w) (c .if1 .taken)
 
--- src/progress.rt:56:19
 sub-t6 : tie.Need-sub-t6
 sub-t6 c = search needs
 
--- src/progress.rt:53:19
 at-clock-requires : tie.Need-at-clock-requires
 at-clock-requires c κs = search needs
 
--- src/progress.rt:46:1
 returns-2 : tie.Need-returns-2
 returns-2 c = λ e input lv lo vars out w h. ends-at (ap Done (c .at-clock .ensures)) (step-done h _ refl (c .before .before .if1 .left))
 

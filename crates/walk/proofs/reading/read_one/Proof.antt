@@ -9,43 +9,31 @@ use borrow.Author.Needs.{needs}
 use Rattle.walk.proofs.reading.read_one.Statement.{statement}
 use Rattle.walk.proofs.reading.read_one.Tie as tie
 use Rattle.walk.proofs.reading.read_one.Reads as reads
-use Rattle.walk.proofs.reading.read_one.Lts as lts
-use Rattle.walk.proofs.reading.read_line.Reads as read-line-reads
-use Rattle.walk.proofs.storing.store.Reads as store-reads
 
--- src/reading.rt:71:9
 read-line-requires : tie.Need-read-line-requires
 read-line-requires c κs = c .before .before .before .before .before .before .pre .1 .1 .1
 
--- src/reading.rt:73:25
 enum-known-r : tie.Need-enum-known-r
 enum-known-r c = search needs
 
--- src/reading.rt:73:34
 store-requires : tie.Need-store-requires
 store-requires c κs = (c .before .before .before .before .before .before .before .before .before .before .before .before .before .pre .0, (c .before .before .before .before .before .before .before .before .before .before .before .before .before .pre .1 .0, (c .before .before .before .before .before .before .before .before .before .before .before .before .before .pre .1 .1 .0, c .before .before .before .before .before .before .read-line .ensures .top _ _ (c .before .before .r .given .1))))
 
--- src/reading.rt:74:26
 enum-known-r-2 : tie.Need-enum-known-r-2
 enum-known-r-2 c = search needs
 
--- src/reading.rt:64:1
 same-length : tie.Need-same-length
 same-length c = search needs
 
--- src/reading.rt:64:1
 same-length-2 : tie.Need-same-length-2
 same-length-2 c = search needs
 
--- src/reading.rt:64:1
 returns : tie.Need-returns
 returns c = λ n a lv lo w h. read-then (c .before .before .before .before .before .before .before .before .read-line .ensures .reads _ lv lo _ w h) (c .before .before .before .before .r .given .1) (λ z. store (rowsOf _ _ (c .before .before .before .before .before .before .before .before .before .before .before .before .before .before .before .args .env)) n z) (λ v held. rw (toZ-ofZ w64 _ (sfits-of (c .before .before .before .known-told .given .0 .1))) at (c .before .store .ensures n a _ lv lo _ v held))
 
--- src/reading.rt:64:1
 same-length-3 : tie.Need-same-length-3
 same-length-3 c = search needs
 
--- src/reading.rt:64:1
 returns-2 : tie.Need-returns-2
 returns-2 c = λ n a lv lo w h. read-stop (c .before .before .before .before .before .read-line .ensures .reads _ lv lo _ w h) (c .before .r2 .given .1) (λ z. store (rowsOf _ _ (c .before .before .before .before .before .before .before .before .before .before .before .before .args .env)) n z)
 

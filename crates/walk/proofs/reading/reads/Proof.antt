@@ -10,11 +10,6 @@ use Rattle.walk.proofs.Members.{along-held, along-next, along-halt, alo
 use Rattle.walk.proofs.Listed.{held-room, ReadsF, ReadsLoop, reads-start, reads-end, the-read, reads-whole}
 use Rattle.walk.proofs.reading.reads.Statement.{statement}
 use Rattle.walk.proofs.reading.reads.Tie as tie
-use Rattle.walk.proofs.reading.reads.Reads as reads
-use Rattle.walk.proofs.reading.reads.Lts as lts
-use Rattle.tree.proofs.after.Reads as after-reads
-use Rattle.tree.proofs.number_at.Reads as number-at-reads
-use Rattle.walk.proofs.reading.read_one.Reads as read-one-reads
 
 abbrev Inv-loop : tie.InvT-loop
 Inv-loop tree i text table env input vars₀ out₀ count now₀ j₀ k₀ vars out now j k = (length vars ≡ length vars₀) × (length out ≡ length out₀) × ReadsLoop (rowsOf text table env) text tree env input i count vars₀ out₀ now₀ k j vars out now
@@ -22,23 +17,18 @@ Inv-loop tree i text table env input vars₀ out₀ count now₀ j₀ k₀ vars 
 abbrev μ-loop : tie.MeasureT-loop
 μ-loop tree i text table env input vars₀ out₀ count now₀ j₀ k₀ vars out now j k = count - k
 
--- src/reading.rt:102:39
 add-number-at : tie.Need-add-number-at Inv-loop μ-loop
 add-number-at c = omega (arith, stmt-fits (c .before .before .before .before .before .pre .1 .0 .at), c .before .before .before .before .before .good)
 
--- src/reading.rt:102:9
 number-at-requires : tie.Need-number-at-requires Inv-loop μ-loop
 number-at-requires c κs = omega (arith, stmt-fits (c .before .before .before .before .before .pre .1 .0 .at), c .before .before .before .before .before .good)
 
--- src/reading.rt:104:17
 add-j : tie.Need-add-j Inv-loop μ-loop
 add-j c = omega (arith, stmt-fits (c .before .before .before .before .before .before .pre .1 .0 .at), c .before .before .before .before .before .before .good)
 
--- src/reading.rt:106:5
 loop-holds : tie.Need-loop-holds Inv-loop μ-loop
 loop-holds c = (refl, refl, reads-start _ _ _ (c .before .before .before .before .before .before .args .env) _ _ _ _ _ (c .before .before .before .before .before .before .args .p) (c .number-at .ensures))
 
--- src/reading.rt:107:13
 read-one-requires : tie.Need-read-one-requires Inv-loop μ-loop
 read-one-requires c κs =
     let w = the-read (c .before .before .before .before .before .before .before .before .before .before .pre .1 .1 .0) (c .before .before .before .before .before .before .before .before .before .before .pre .1 .0) in
@@ -47,27 +37,21 @@ read-one-requires c κs =
     let h = along-held (ReadsF _ _) _ _ _ _ _ _ _ _ _ _ _ _ _ _ l (c .before .before .before .before .before .before .before .before .before .before .pre .1 .1 .1) in
     (c .before .before .before .before .before .before .before .before .before .before .pre .0, (record { name = n .0; at = record { stands = n .1 .0; named = n .1 .1 .0 } }, (held-room h, h .holds .few)))
 
--- src/reading.rt:108:27
 enum-known-r : tie.Need-enum-known-r Inv-loop μ-loop
 enum-known-r c = search needs
 
--- src/reading.rt:109:13
 enum-told : tie.Need-enum-told Inv-loop μ-loop
 enum-told c = search needs
 
--- src/reading.rt:109:13
 same-length : tie.Need-same-length Inv-loop μ-loop
 same-length c = search needs
 
--- src/reading.rt:109:13
 same-length-2 : tie.Need-same-length-2 Inv-loop μ-loop
 same-length-2 c = search needs
 
--- src/reading.rt:109:13
 returns : tie.Need-returns Inv-loop μ-loop
 returns c = reads-whole _ _ _ _ (c .before .before .before .before .before .before .before .before .before .before .before .before .before .before .before .before .args .env) _ _ _ (c .before .before .before .before .before .before .before .before .before .before .before .before .before .before .before .before .args .p) (c .before .before .before .before .before .before .before .before .before .before .before .before .before .before .before .before .pre .1 .1 .0) (λ ns a. along-halt (ReadsF _ _) _ _ _ _ _ _ _ _ _ _ _ _ _ _ (c .before .before .before .before .before .before .before .before .before .loop .inv .2 ns a) (c .before .before .before .before .before .before .before .before .loop-test .taken) _ _ (λ m st nm. c .before .before .before .before .before .read-one .ensures m (record { stands = st; named = nm })) (c .enum-told .given .1))
 
--- src/reading.rt:112:9
 after-requires : tie.Need-after-requires Inv-loop μ-loop
 after-requires c κs =
     let w = the-read (c .before .before .before .before .before .before .before .before .before .before .before .before .before .before .before .before .before .pre .1 .1 .0) (c .before .before .before .before .before .before .before .before .before .before .before .before .before .before .before .before .before .pre .1 .0) in
@@ -75,27 +59,21 @@ after-requires c κs =
     let n = along-next (ReadsF _ _) _ _ _ _ _ _ _ _ _ _ _ _ _ _ l (c .before .before .before .before .before .before .before .before .before .loop-test .taken) in
     (_, n .1 .0)
 
--- src/reading.rt:113:9
 add-k : tie.Need-add-k Inv-loop μ-loop
 add-k c = omega (arith, c .before .before .before .before .before .before .before .before .before .before .loop-test .taken, c .before .before .before .before .before .before .before .before .before .before .before .before .number-at .ok)
 
--- src/reading.rt:106:5
 loop-less : tie.Need-loop-less Inv-loop μ-loop
 loop-less c = omega (arith, c .before .before .before .before .before .before .before .before .before .before .loop-test .taken)
 
--- src/reading.rt:106:5
 loop-again : tie.Need-loop-again Inv-loop μ-loop
 loop-again c = (c .before .before .before .before .before .before .before .read-one .kept .1 .1 .1 .1 .1 .1 .1 .0 ∙ c .before .before .before .before .before .before .before .before .before .before .before .loop .inv .0, c .before .before .before .before .before .before .before .read-one .kept .1 .1 .1 .1 .1 .1 .1 .1 .0 ∙ c .before .before .before .before .before .before .before .before .before .before .before .loop .inv .1, λ ns a. along-more (ReadsF _ _) _ _ _ _ _ _ _ _ _ _ _ _ _ _ (c .before .before .before .before .before .before .before .before .before .before .before .loop .inv .2 ns a) (c .before .before .before .before .before .before .before .before .before .before .loop-test .taken) _ _ (λ m st nm. c .before .before .before .before .before .before .before .read-one .ensures m (record { stands = st; named = nm })) (c .before .before .r .given .1) (c .after .ensures))
 
--- src/reading.rt:95:1
 same-length-3 : tie.Need-same-length-3 Inv-loop μ-loop
 same-length-3 c = search needs
 
--- src/reading.rt:95:1
 same-length-4 : tie.Need-same-length-4 Inv-loop μ-loop
 same-length-4 c = search needs
 
--- src/reading.rt:95:1
 returns-2 : tie.Need-returns-2 Inv-loop μ-loop
 returns-2 c = reads-whole _ _ _ _ (c .before .before .before .before .before .before .before .before .args .env) _ _ _ (c .before .before .before .before .before .before .before .before .args .p) (c .before .before .before .before .before .before .before .before .pre .1 .1 .0) (λ ns a lv lo w h. along-done (ReadsF _ _) _ _ _ _ _ _ _ _ _ _ _ _ _ _ (c .before .loop .inv .2 ns a) lv lo w h _ _ _ (c .loop-test .left) _ (λ b v. refl) (λ v held. reads-end _ v held))
 

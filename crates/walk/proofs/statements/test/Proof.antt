@@ -11,33 +11,22 @@ use Rattle.walk.proofs.Testing.{test-halt, test-spent, test-passed, tes
 use borrow.Author.Needs.{needs}
 use Rattle.walk.proofs.statements.test.Statement.{statement}
 use Rattle.walk.proofs.statements.test.Tie as tie
-use Rattle.walk.proofs.statements.test.Reads as reads
-use Rattle.walk.proofs.statements.test.Lts as lts
-use Rattle.walk.proofs.expressions.cond.Reads as cond-reads
-use Rattle.walk.proofs.progress.at_clock.Reads as at-clock-reads
-use Rattle.walk.proofs.progress.tick.Reads as tick-reads
 
--- src/statements.rt:44:9
 cond-requires : tie.Need-cond-requires
 cond-requires c κs = search needs
 
--- src/statements.rt:46:23
 enum-known-r : tie.Need-enum-known-r
 enum-known-r c = search needs
 
--- src/statements.rt:47:26
 at-clock-requires : tie.Need-at-clock-requires
 at-clock-requires c κs = search needs
 
--- src/statements.rt:47:17
 tick-requires : tie.Need-tick-requires
 tick-requires c κs = search needs
 
--- src/statements.rt:49:31
 enum-known-o : tie.Need-enum-known-o
 enum-known-o c = search needs
 
--- src/statements.rt:51:25
 returns : tie.Need-returns
 returns c =
     let z = c .before .before .before .before .before .before .before .r .given .0 .0 in
@@ -45,19 +34,15 @@ returns c =
     let k : SFits w64 (pos 0) = search needs in
     λ t a input lv lo out w held. test-failed held (c .before .before .before .before .before .before .before .before .before .cond .ensures t a w (shown held)) (c .before .before .before .before .before .before .before .r .given .1) (c .before .before .before .before .before .at-clock .ensures) (c .before .before .before .before .tick .ensures) (c .before .before .o .given .1) (sym (same-bits z (pos 0) h k) ∙ eq-eqb (ofZ w64 z) 0 (c .if1 .taken))
 
--- src/statements.rt:55:34
 enum-known-o-2 : tie.Need-enum-known-o-2
 enum-known-o-2 c = search needs
 
--- src/statements.rt:58:25
 enum-known-r-2 : tie.Need-enum-known-r-2
 enum-known-r-2 c = search needs
 
--- src/statements.rt:58:53
 at-clock-requires-2 : tie.Need-at-clock-requires-2
 at-clock-requires-2 c κs = search needs
 
--- src/statements.rt:31:1
 returns-2 : tie.Need-returns-2
 returns-2 c =
     let z = c .before .before .before .before .before .before .before .r .given .0 .0 in
@@ -65,11 +50,9 @@ returns-2 c =
     let k : SFits w64 (pos 0) = search needs in
     λ t a input lv lo out w held. test-passed held (c .before .before .before .before .before .before .before .before .before .cond .ensures t a w (shown held)) (c .before .before .before .before .before .before .before .r .given .1) (c .before .before .before .before .before .at-clock .ensures) (c .before .before .before .before .tick .ensures) (c .before .before .o .given .1) (sym (same-bits z (pos 0) h k) ∙ ne-eqb (ofZ w64 z) 0 (c .if1 .left))
 
--- src/statements.rt:31:1
 returns-3 : tie.Need-returns-3
 returns-3 c = λ t a input lv lo out w held. test-spent held (c .before .before .before .before .before .before .before .before .cond .ensures t a w (shown held)) (c .before .before .before .before .before .before .r .given .1) (c .before .before .before .before .at-clock .ensures) (c .before .before .before .tick .ensures) (c .before .o2 .given .1)
 
--- src/statements.rt:31:1
 returns-4 : tie.Need-returns-4
 returns-4 c = λ t a input lv lo out w held. test-halt held (c .before .before .before .before .cond .ensures t a w (shown held)) (c .before .before .r2 .given .1) (c .at-clock2 .ensures)
 

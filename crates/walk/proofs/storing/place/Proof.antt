@@ -1,40 +1,27 @@
 -- The proof of `place`.
 use borrow.Author.Needs.{needs}
 use Rattle.walk.proofs.Lookup.{nothing-place, row-lies, row-place}
-use borrow.Author.Needs.{needs}
 use Rattle.walk.proofs.storing.place.Statement.{statement}
 use Rattle.walk.proofs.storing.place.Tie as tie
-use Rattle.walk.proofs.storing.place.Reads as reads
-use Rattle.walk.proofs.storing.place.Lts as lts
-use Rattle.symbols.proofs.find.Reads as find-reads
-use Rattle.symbols.proofs.read_row.Reads as read-row-reads
-use Rattle.walk.proofs.expressions.place_of.Reads as place-of-reads
 
--- src/storing.rt:26:9
 find-requires : tie.Need-find-requires
 find-requires c κs = (c .before .before .pre .0 .sound, c .before .before .pre .1)
 
--- src/storing.rt:27:19
 enum-known-f : tie.Need-enum-known-f
 enum-known-f c = search needs
 
--- src/storing.rt:28:9
 enum-told : tie.Need-enum-told
 enum-told c = search needs
 
--- src/storing.rt:28:9
 returns : tie.Need-returns
 returns c = nothing-place _ _ _ _ _ (c .before .before .find .ensures _ (c .before .before .before .before .before .pre .0 .seen)) (c .enum-told .given .1)
 
--- src/storing.rt:30:9
 read-row-requires : tie.Need-read-row-requires
 read-row-requires c κs = row-lies _ _ _ _ _ (c .before .before .before .find .ensures _ (c .before .before .before .before .before .before .pre .0 .seen)) _ (c .before .f .given .1) (c .before .before .before .before .before .before .pre .0 .sound)
 
--- src/storing.rt:31:5
 place-of-requires : tie.Need-place-of-requires
 place-of-requires c κs = search needs
 
--- src/storing.rt:21:1
 returns-2 : tie.Need-returns-2
 returns-2 c = row-place _ _ _ _ _ (c .before .before .before .before .before .find .ensures _ (c .before .before .before .before .before .before .before .before .pre .0 .seen)) _ (c .before .before .before .f .given .1) _ (c .before .read-row .ensures) _ (c .place-of .ensures)
 

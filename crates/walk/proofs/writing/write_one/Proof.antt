@@ -7,55 +7,37 @@ use Rattle.walk.proofs.Outputs.{write-spent, write-stop, write-on}
 use borrow.Author.Needs.{needs}
 use Rattle.walk.proofs.writing.write_one.Statement.{statement}
 use Rattle.walk.proofs.writing.write_one.Tie as tie
-use Rattle.walk.proofs.writing.write_one.Reads as reads
-use Rattle.walk.proofs.writing.write_one.Lts as lts
-use Rattle.numbers.proofs.screen.put_number.Reads as put-number-reads
-use Rattle.walk.proofs.expressions.exp.Reads as exp-reads
-use Rattle.walk.proofs.progress.at_clock.Reads as at-clock-reads
-use Rattle.walk.proofs.progress.stopped.Reads as stopped-reads
-use Rattle.walk.proofs.writing.wrote.Reads as wrote-reads
 
--- src/writing.rt:58:9
 exp-requires : tie.Need-exp-requires
 exp-requires c κs = (c .before .before .before .before .pre .0, c .before .before .before .before .pre .1)
 
--- src/writing.rt:59:23
 enum-known-r : tie.Need-enum-known-r
 enum-known-r c = search needs
 
--- src/writing.rt:60:9
 enum-told : tie.Need-enum-told
 enum-told c = search needs
 
--- src/writing.rt:60:9
 stopped-requires : tie.Need-stopped-requires
 stopped-requires c κs = search needs
 
--- src/writing.rt:60:9
 returns : tie.Need-returns
 returns c = write-stop _ _ _ _ (c .before .before .before .before .before .before .before .before .args .env) _ _ (c .before .before .before .before .before .before .before .before .args .p) (c .before .before .before .exp .ensures) (c .before .enum-told .given .1) (c .stopped .ensures)
 
--- src/writing.rt:62:9
 at-clock-requires : tie.Need-at-clock-requires
 at-clock-requires c κs = search needs
 
--- src/writing.rt:64:9
 returns-2 : tie.Need-returns-2
 returns-2 c = write-on _ _ _ _ (c .before .before .before .before .before .before .before .before .before .before .before .args .env) _ _ (c .before .before .before .before .before .before .before .before .before .before .before .args .p) (c .before .before .before .before .before .before .exp .ensures) (c .before .before .before .before .r .given .1) refl (c .before .before .at-clock .ensures) (write-spent _ _ _ (rw (c .before .before .at-clock .ensures) (c .if1 .taken)))
 
--- src/writing.rt:66:11
 put-number-requires : tie.Need-put-number-requires
 put-number-requires c κs = search needs
 
--- src/writing.rt:66:5
 wrote-requires : tie.Need-wrote-requires
 wrote-requires c κs = λ z. c .before .before .before .before .if1 .left (rw (c .before .before .before .before .before .before .at-clock .ensures) at z)
 
--- src/writing.rt:53:1
 same-length : tie.Need-same-length
 same-length c = search needs
 
--- src/writing.rt:53:1
 returns-3 : tie.Need-returns-3
 returns-3 c = write-on _ _ _ _ (c .before .before .before .before .before .before .before .before .before .before .before .before .before .before .before .before .args .env) _ _ (c .before .before .before .before .before .before .before .before .before .before .before .before .before .before .before .before .args .p) (c .before .before .before .before .before .before .before .before .before .before .before .exp .ensures) (c .before .before .before .before .before .before .before .before .before .r .given .1) (toZ-ofZ w64 _ (sfits-of (c .before .before .before .before .before .before .before .before .known-told .given .0 .1))) (c .before .before .before .before .before .before .before .at-clock .ensures) (c .wrote .ensures _ _ _ (c .before .before .before .put-number .ensures))
 

@@ -1,30 +1,21 @@
 -- The proof of `wrote`.
 use borrow.Author.Needs.{needs}
 use Rattle.walk.proofs.Outputs.{wrote-full, wrote-on}
-use borrow.Author.Needs.{needs}
 use Rattle.walk.proofs.writing.wrote.Statement.{statement}
 use Rattle.walk.proofs.writing.wrote.Tie as tie
-use Rattle.walk.proofs.writing.wrote.Reads as reads
-use Rattle.walk.proofs.writing.wrote.Lts as lts
-use Rattle.walk.proofs.progress.tick.Reads as tick-reads
 
--- src/writing.rt:27:17
 enum-known-w : tie.Need-enum-known-w
 enum-known-w c = search needs
 
--- src/writing.rt:35:13
 tick-requires : tie.Need-tick-requires
 tick-requires c κs = search needs
 
--- src/writing.rt:37:22
 enum-told : tie.Need-enum-told
 enum-told c = search needs
 
--- src/writing.rt:22:1
 returns : tie.Need-returns
 returns c = λ bs before after v. wrote-on (c .before .before .before .before .before .args .p) _ bs before after v _ (c .before .before .before .before .before .pre) (c .before .before .before .w .given .1) (c .tick .ensures)
 
--- src/writing.rt:22:1
 returns-2 : tie.Need-returns-2
 returns-2 c = λ bs before after v. wrote-full (c .before .before .args .p) _ bs before after v (c .before .before .pre) (c .enum-told .given .1)
 
