@@ -16,7 +16,7 @@ use Rattle.numbers.specs.Stack.{links}
 use Rattle.numbers.specs.Bytes.{isAscii, every}
 use Rattle.lexer.specs.Tokens.{Name}
 use Rattle.grammar.specs.Grammar.{parse, Parsed, tree, refused}
-use Rattle.parser.specs.Entry.{reading}
+use Rattle.grammar.specs.Source.{reading}
 use Rattle.grammar.specs.Refusals.{parse-refuses}
 use Rattle.tree.specs.Tree.{Exp, call, noProcs, Block}
 use Rattle.pcode.specs.Operators.{return}

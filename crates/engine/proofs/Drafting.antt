@@ -6,7 +6,8 @@ use lib.ListN.{length, take, drop, take-append-drop}
 use Rattle.numbers.specs.Limits.{treePlaces, tablePlaces, draftPlaces}
 use Rattle.tree.specs.Tree.{Block}
 use Rattle.grammar.specs.Grammar.{tree}
-use Rattle.parser.specs.Entry.{reading, Answers, answers, Parses}
+use Rattle.grammar.specs.Source.{reading}
+use Rattle.parser.specs.Entry.{Answers, answers, Parses}
 use Rattle.parser.specs.declared.Parsed.{Parsed}
 use Rattle.parser.specs.declared.Parsed.the-variants.{Tree, Refused as Declined}
 use Rattle.grammar.specs.Names.{parse-named}

@@ -10,7 +10,7 @@ use Rattle.numbers.specs.Panel.{done}
 use Rattle.numbers.specs.Limits.{maxCode, tablePlaces, draftShare, draftPlaces}
 use Rattle.tree.specs.Tree.{Block}
 use Rattle.grammar.specs.Grammar.{tree}
-use Rattle.parser.specs.Entry.{reading}
+use Rattle.grammar.specs.Source.{reading}
 use Rattle.translator.specs.declared.Translated.{Translated}
 use Rattle.translator.specs.declared.Translated.the-variants.{Length, Refused}
 use Rattle.translator.specs.Blocks.{BlockAt, Whole}

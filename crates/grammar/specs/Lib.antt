@@ -1,5 +1,6 @@
 pub mod Reader
 pub mod Grammar
+pub mod Source
 pub mod Gets
 pub mod Depth
 pub mod Names

@@ -13,7 +13,7 @@ use Rattle.numbers.specs.Limits.{maxSource, maxOpen}
 use Rattle.numbers.specs.Bytes.{isAscii, every}
 use Rattle.tree.specs.Tree.{Block}
 use Rattle.grammar.specs.Grammar.{parse, Parsed, tree, refused}
-use Rattle.parser.specs.Entry.{reading}
+use Rattle.grammar.specs.Source.{reading}
 use Rattle.grammar.specs.Depth.{parse-nests}
 use Rattle.grammar.specs.Names.{parse-named}
 use Rattle.pcode.specs.Code.{Instr}

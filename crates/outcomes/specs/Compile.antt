@@ -4,7 +4,7 @@ use Prim.Native.Nat.{ℕ}
 use Rattle.numbers.specs.Panel.{done, procedureInTree}
 use Rattle.tree.specs.Tree.{Procs, noProcs, proc}
 use Rattle.grammar.specs.Grammar.{parse, Parsed, tree, refused}
-use Rattle.parser.specs.Entry.{reading}
+use Rattle.grammar.specs.Source.{reading}
 use Rattle.pcode.specs.Code.{Instr}
 use Rattle.translator.specs.Translate.{Done, finished, failed, blockCode}
 use Rattle.walk.specs.Walk.{Walked, begin, walkBlock}

@@ -4,7 +4,7 @@ use Rattle.numbers.specs.Arithmetic.{eqZ, fits, checked, quotient, arith, compa
 use Rattle.numbers.specs.Screen.{decimalOf, decimal, prompt}
 use Rattle.numbers.specs.Line.{line, afterLine, field, magnitude, plus, minus, valueOf, entry}
 use Rattle.grammar.specs.Rows.{reading as texts}
-use Rattle.parser.specs.Entry.{reading}
+use Rattle.grammar.specs.Source.{reading}
 use Rattle.pcode.specs.Operators.{operators, operOf}
 use Rattle.pcode.specs.Code.{kindNo, kinds, kindOf, placeFor, instrIn, codeFor, placesIn, instrsIn}
 use Rattle.symbols.specs.Symbols.{isIn, allIn, sameScope, findIn, find, declared, oneMore, fresh, constRows, varRows, argRows}

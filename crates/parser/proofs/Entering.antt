@@ -22,10 +22,11 @@ use Rattle.parser.specs.declared.answer.Answer.the-variants.{Node, Nothi
 use Rattle.parser.specs.declared.Parsed.{Parsed}
 use Rattle.parser.specs.declared.Parsed.the-variants.{Tree, Refused}
 use Rattle.grammar.specs.Grammar.{tree, refused, parsed, parse, program, fuel}
+use Rattle.grammar.specs.Source.{reading}
 use Rattle.grammar.specs.Refusals.{program-refuses}
 use Rattle.parser.specs.Parts.{only}
 use Rattle.parser.specs.Meets.{Room, Safe, Means, Tries}
-use Rattle.parser.specs.Entry.{reading, Numbered, concludedOf, answerOf, numbersOf, endOf, Reads, Parses}
+use Rattle.parser.specs.Entry.{Numbered, concludedOf, answerOf, numbersOf, endOf, Reads, Parses}
 
 append-nil : (l : List ℕ) → l ++ [] ≡ l
 append-nil [] = refl

@@ -3,14 +3,13 @@ use mathlib.Core.Path.{_≡_, refl, sym, ap, _∙_, subst}
 use mathlib.Core.Bool.{Bool, true, false}
 use mathlib.Core.List.{List, [], _++_, append-assoc}
 use Prim.Native.Nat.{ℕ, _-_, _≤_, _<_}
-use lib.Dec.{leb, ltb}
+use lib.Dec.{ltb}
 use lib.ListN.{length, take, drop, replicate}
 use lib.Seq.{take-append-seam}
 use borrow.Author.Tests.{ltb-true, ltb-false}
-use Rattle.numbers.specs.Limits.{maxSource, treePlaces}
+use Rattle.numbers.specs.Limits.{treePlaces}
 use Rattle.numbers.specs.Lent.{onto, filled}
-use Rattle.numbers.specs.Bytes.{isAscii, every}
-use Rattle.numbers.specs.Panel.{sourceTooLong, sourceNotAscii, bodyFailedQuietly, roomTooSmall}
+use Rattle.numbers.specs.Panel.{bodyFailedQuietly, roomTooSmall}
 use Rattle.tree.specs.Tree.{Block}
 use Rattle.tree.specs.Layout.{size, enc}
 use Rattle.tree.specs.Reading.{length-enc}
@@ -19,15 +18,8 @@ use Rattle.parser.specs.declared.answer.Answer.{Answer}
 use Rattle.parser.specs.declared.answer.Answer.the-variants.{Node, Nothing, Refused as Stopped}
 use Rattle.parser.specs.declared.Parsed.{Parsed}
 use Rattle.parser.specs.declared.Parsed.the-variants.{Tree, Refused}
-use Rattle.grammar.specs.Grammar.{Parsed as Outcome, tree, refused, parse}
-
--- a text's tree, or the first refusal
-unfoldable pub reading : List ℕ → Outcome
-reading src =
-    elim (leb (length src) maxSource) [
-      | false ↦ refused sourceTooLong
-      | true ↦ elim (every isAscii src) [ false ↦ refused sourceNotAscii | true ↦ parse src ]
-    ]
+use Rattle.grammar.specs.Grammar.{Parsed as Outcome, tree, refused}
+use Rattle.grammar.specs.Source.{reading}
 
 -- a refusal's number is one of the panel's, which a byte holds
 abbrev pub Numbered : Answer → Type 0
