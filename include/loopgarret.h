@@ -15,8 +15,8 @@
  * memset. examples/run builds an example in C and one in Rust with it.
  *
  * Stack and time are no part of the proof. Calls nest at most once for each of 64 open constructs, and never by the length of a
- * sheet or the steps of a run. On x86-64 a thread with
- * 102,400 bytes of stack was enough for compile, 16,384 for run and 114,688 for walk, for the deepest texts that are accepted.
+ * sheet or the steps of a run. On x86-64 a thread with 118,784 bytes of stack was enough for compile and for walk, and one with
+ * 16,384 for run, for the deepest texts that are accepted.
  */
 #ifndef LOOPGARRET_H
 #define LOOPGARRET_H
