@@ -1,77 +1,63 @@
--- Laws of what is written: digits from the last to the first, and bytes put into the middle of the output.
+-- Laws of what is written: bytes put into the middle of the output, and others behind them.
 use mathlib.Core.Path.{_≡_, refl, sym, ap, _∙_}
-use mathlib.Core.Bool.{Bool, true, false}
-use mathlib.Core.List.{List, [], _∷_, _++_, append-assoc}
-use Prim.Native.Nat.{ℕ, zero, suc, _+_, _-_, _/_, _%_, _^_, _≤_, _<_}
+use mathlib.Core.List.{List, _++_, append-assoc}
+use Prim.Native.Nat.{ℕ, _+_, _-_, _≤_}
 use native.Mathlib.Omega.{arith}
-use lib.IntN.{ℤ, pos, negsuc, natAbs}
-use lib.Signed.{ltZ}
-use lib.Dec.{ltb}
-use lib.ListN.{length, take, drop, set}
-use lib.Seq.{set-split, drop-at, length-take-le, paste, take-length}
-use borrow.Author.Tests.{lt-ltb, le-ltb}
-use Rattle.numbers.specs.Screen.{decimalOf, decimal}
-use Rattle.numbers.specs.Answers.{spliced}
+use lib.IntN.{ℤ}
+use lib.Dec.{leb}
+use lib.ListN.{length, take, drop, length-append}
+use lib.Seq.{drop-drop, paste, take-paste, drop-paste, length-paste, take-length}
+use borrow.Author.Tests.{le-leb}
+use borrow.Rule.Slice.PartMut.{putMid, post-is}
+use Rattle.numbers.specs.declared.screen.Put.{Put}
+use Rattle.numbers.specs.declared.screen.Put.the-variants.{At, Full}
+use Rattle.numbers.specs.Bytes.{bytes}
+use Rattle.numbers.specs.Screen.{decimal, written}
+use Rattle.numbers.specs.Answers.{spliced, Puts}
 use Rattle.numbers.proofs.Signs.{clash}
-
--- what stands from a place on, after a store there
-pub drop-set-here : (l : List ℕ) (i d : ℕ) → i < length l → drop i (set l i d) ≡ d ∷ drop (suc i) l
-drop-set-here l i d h = rw (set-split l i d h) (drop-at (take i l) (d ∷ drop (suc i) l) i (length-take-le i l (omega arith)))
-
--- a number of two digits or more, below 10 ^ (i - 1)
-pub digits-room : (i m : ℕ) → 10 ≤ m → m < 10 ^ (i - 1) → 3 ≤ i
-digits-room zero m h g = absurd (omega arith)
-digits-room (suc zero) m h g = absurd (omega arith)
-digits-room (suc (suc zero)) m h g = absurd (omega arith)
-digits-room (suc (suc (suc i))) m h g = omega arith
-
-pub digits-less : (i m : ℕ) → 3 ≤ i → m < 10 ^ (i - 1) → m / 10 < 10 ^ (i - 1 - 1)
-digits-less zero m p g = absurd (omega arith)
-digits-less (suc zero) m p g = absurd (omega arith)
-digits-less (suc (suc i)) m p g =
-    let e : suc (suc i) - 1 ≡ suc i = omega arith in
-    let f : suc i - 1 ≡ i = omega arith in
-    let g′ : m < 10 ^ suc i = rw e at g in
-    rw (e, f) (omega arith)
-
--- one more digit, in front of those that stand from i on
-pub digit-step : (i m : ℕ) (l : List ℕ) → 3 ≤ i → i ≤ length l → 10 ≤ m
-    → decimalOf (i - 1) (m / 10) (drop (i - 1) (set l (i - 1) (48 + m % 10))) ≡ decimalOf i m (drop i l)
-unfolding decimalOf
-digit-step zero m l p h g = absurd (omega arith)
-digit-step (suc i) m l p h g =
-    let e : suc i - 1 ≡ i = omega arith in
-    rw (e, drop-set-here l i (48 + m % 10) h) (rw (le-ltb m 10 g, decimalOf))
-
--- the first digit
-pub digit-last : (i m : ℕ) (l : List ℕ) → 2 ≤ i → i ≤ length l → m < 10 → drop (i - 1) (set l (i - 1) (48 + m)) ≡ decimalOf i m (drop i l)
-unfolding decimalOf
-digit-last zero m l p h g = absurd (omega arith)
-digit-last (suc i) m l p h g =
-    let e : suc i - 1 ≡ i = omega arith in
-    rw (e, drop-set-here l i (48 + m) h) (rw (lt-ltb m 10 g, decimalOf))
-
--- digits in front of a list
-pub decimal-front : (f n : ℕ) (l t : List ℕ) → decimalOf f n (l ++ t) ≡ decimalOf f n l ++ t
-unfolding decimalOf
-decimal-front zero n l t = refl
-decimal-front (suc f) n l t = by (ltb n 10) refl (decimal-front f (n / 10) ((48 + n % 10) ∷ l) t)
-  where
-    by : (b : Bool) → ltb n 10 ≡ b → decimalOf f (n / 10) (((48 + n % 10) ∷ l) ++ t) ≡ decimalOf f (n / 10) ((48 + n % 10) ∷ l) ++ t
-        → decimalOf (suc f) n (l ++ t) ≡ decimalOf (suc f) n l ++ t
-    by true e h = rw (e, decimalOf)
-    by false e h = rw (e, decimalOf) h
-
-pub decimal-plain : (x : ℤ) (t : List ℕ) → ltZ x (pos 0) ≡ false → decimalOf 20 (natAbs x) t ≡ decimal x ++ t
-unfolding decimal
-decimal-plain (pos n) t e = decimal-front 20 n [] t
-decimal-plain (negsuc n) t e = clash e
-
-pub decimal-signed : (x : ℤ) (t : List ℕ) → ltZ x (pos 0) ≡ true → 45 ∷ decimalOf 20 (natAbs x) t ≡ decimal x ++ t
-unfolding decimal
-decimal-signed (pos n) t e = clash (sym e ∙ le-ltb n 0 (omega arith))
-decimal-signed (negsuc n) t e = ap (λ (l : List ℕ). 45 ∷ l) (decimal-front 20 (suc n) [] t)
 
 -- all of the bytes are pasted
 pub pasted : (out : List ℕ) (at : ℕ) (bs : List ℕ) (i : ℕ) → i ≡ length bs → paste out at bs i ≡ spliced out at bs
 pasted out at bs i e = rw (e, take-length bs) (append-assoc (take at out) bs (drop (at + length bs) out))
+
+-- a part that was lent is filled
+pub part-filled : (out bs : List ℕ) (at e : ℕ) → e ≡ at + length bs → putMid at (e - at) out bs ≡ spliced out at bs
+part-filled out bs at e h = rw (post-is at e out (omega arith), h)
+
+-- bytes behind others, where there is room for all
+module _ (out ds bs : List ℕ) (at : ℕ) (room : at + length (ds ++ bs) ≤ length out) where
+  sum : length (ds ++ bs) ≡ length ds + length bs
+  sum = length-append ds bs
+
+  as-pasted : spliced out at ds ≡ paste out at ds (length ds)
+  as-pasted = sym (pasted out at ds (length ds) refl)
+
+  same : length (spliced out at ds) ≡ length out
+  same = rw as-pasted (length-paste out at ds (length ds) (omega (arith, sum)) (omega arith))
+
+  before : take (at + length ds) (spliced out at ds) ≡ take at out ++ ds
+  before = rw as-pasted (take-paste out at ds (length ds) (omega arith) (omega arith) ∙ ap (λ (l : List ℕ). take at out ++ l) (take-length ds))
+
+  behind : drop (at + length ds + length bs) (spliced out at ds) ≡ drop (at + length (ds ++ bs)) out
+  behind =
+      let e : at + length ds + length bs ≡ at + length (ds ++ bs) = omega (arith, sum) in
+      sym (drop-drop (length bs) (at + length ds) (spliced out at ds))
+      ∙ ap (λ (l : List ℕ). drop (length bs) l) (rw as-pasted (drop-paste out at ds (length ds) (omega arith) (omega arith)))
+      ∙ drop-drop (length bs) (at + length ds) out
+      ∙ ap (λ (n : ℕ). drop n out) e
+
+  twice : spliced (spliced out at ds) (at + length ds) bs ≡ spliced out at (ds ++ bs)
+  twice = rw (before, behind) (simp append-assoc)
+
+  pub put-behind : (mid after : List ℕ) (e : ℕ) (r : Put) → mid ≡ spliced out at ds → e ≡ at + length ds → Puts bs e mid after r → Puts (ds ++ bs) at out after r
+  put-behind mid after e (At n) p q w = record {
+    fits = le-leb (at + length (ds ++ bs)) (length out) room;
+    next = omega (arith, w .next, sum);
+    whole = w .whole ∙ rw (p, q) twice;
+  }
+  put-behind mid after e Full p q k = clash (sym (le-leb (e + length bs) (length mid) (omega (arith, sum, ap length p, same))) ∙ k .full)
+
+-- the room that a number takes, with its two spaces
+pub written-room : (x : ℤ) (count at room : ℕ) → count ≡ length (decimal x) → leb (at + (count + 2)) room ≡ leb (at + length (written x)) room
+unfolding bytes
+written-room x count at room e = let n : count + 2 ≡ length (written x) = omega (arith, length-append (decimal x) (bytes "  ")) in ap (λ (k : ℕ). leb (at + k) room) n

@@ -272,8 +272,3 @@ minus-one-less (suc n) = ap negsuc (omega arith)
 pub negative-of : (m : ℕ) → (m ≡ 0 → ⊥) → negℤ (pos m) ≡ negsuc (m - 1)
 negative-of zero d = absurd (d refl)
 negative-of (suc n) d = ap negsuc (omega arith)
-
--- a magnitude within i64
-pub magnitude-most : (a : ℤ) → SFits w64 a → natAbs a ≤ leastMagnitude
-magnitude-most (pos n) h = omega (arith, h .sfits)
-magnitude-most (negsuc n) h = omega (arith, h .sfits)

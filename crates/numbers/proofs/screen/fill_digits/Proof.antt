@@ -1,66 +1,70 @@
--- `screen::fill_digits` meets its contract. The loop's invariant: the digits of what is left, in front of those written, are the digits of the number.
+-- `screen::fill_digits` meets its contract. The loop's invariant: the digits that are left, in front of those written, are the digits of the number.
 use mathlib.Core.Path.{_≡_, refl, _∙_}
-use Prim.Native.Nat.{_-_, _^_, _≤_, _<_}
+use Prim.Native.Nat.{_≤_}
 use native.Mathlib.Omega.{arith}
+use lib.IntN.{pos}
 use lib.ListN.{length, drop, length-set}
-use Rattle.numbers.specs.Screen.{decimalOf}
-use Rattle.numbers.proofs.Screens.{digits-room, digits-less, digit-step, digit-last}
+use Rattle.numbers.specs.Screen.{decimal}
+use Rattle.numbers.proofs.Decimals.{lastDigits, digits-begin, digit-more, pair-more}
+use borrow.Author.Needs.{needs}
 use Rattle.numbers.proofs.screen.fill_digits.Statement.{statement}
 use Rattle.numbers.proofs.screen.fill_digits.Tie as tie
 
 abbrev Inv-loop : tie.InvT-loop
-Inv-loop scratch₀ n i₀ m₀ scratch i m = (2 ≤ i) × (i ≤ 20) × (m < 10 ^ (i - 1)) × (length scratch ≡ 22) × (decimalOf i m (drop i scratch) ≡ decimalOf 20 n (drop 20 scratch₀))
+Inv-loop part₀ n left₀ m₀ part left m = (left ≤ length part) × (length part ≡ length part₀) × (lastDigits left m (drop left part) ≡ decimal (pos n))
 
 abbrev μ-loop : tie.MeasureT-loop
-μ-loop scratch₀ n i₀ m₀ scratch i m = m
+μ-loop part₀ n left₀ m₀ part left m = left
 
 loop-holds : tie.Need-loop-holds Inv-loop μ-loop
-loop-holds c = (omega arith, omega arith, omega (arith, c .pre .1), c .pre .0, refl)
+loop-holds c = (omega arith, refl, digits-begin (c .before .args .n) (c .before .args .part .now) (c .before .pre))
 
-sub-i : tie.Need-sub-i Inv-loop μ-loop
-sub-i c = omega arith
+last-digit-requires : tie.Need-last-digit-requires Inv-loop μ-loop
+last-digit-requires c κs = search needs
 
-cast-scratch : tie.Need-cast-scratch Inv-loop μ-loop
-cast-scratch c = omega arith
+sub-part : tie.Need-sub-part Inv-loop μ-loop
+sub-part c = omega arith
 
-add-scratch : tie.Need-add-scratch Inv-loop μ-loop
-add-scratch c = omega arith
+slice-write-part : tie.Need-slice-write-part Inv-loop μ-loop
+slice-write-part c = omega arith
 
-element-write-scratch : tie.Need-element-write-scratch Inv-loop μ-loop
-element-write-scratch c = omega arith
+last-digit-requires-2 : tie.Need-last-digit-requires-2 Inv-loop μ-loop
+last-digit-requires-2 c κs = search needs
+
+slice-write-part-2 : tie.Need-slice-write-part-2 Inv-loop μ-loop
+slice-write-part-2 c = simp length-set (omega arith)
 
 loop-less : tie.Need-loop-less Inv-loop μ-loop
 loop-less c = omega arith
 
 loop-again : tie.Need-loop-again Inv-loop μ-loop
-loop-again c =
-    let i = c .before .loop .i in
-    let m = c .before .loop .m in
-    let room : 3 ≤ i = digits-room i m (c .loop-test .taken) (c .before .loop .inv .2) in (
-      omega arith,
-      omega arith,
-      digits-less i m room (c .before .loop .inv .2),
-      simp length-set (c .before .loop .inv .3),
-      digit-step i m (c .before .loop .scratch) room (omega arith) (c .loop-test .taken) ∙ c .before .loop .inv .4,
-    )
+loop-again c = (
+  simp length-set (omega arith),
+  simp length-set (c .before .before .before .loop .inv .1),
+  pair-more (c .before .before .before .loop .left) (c .before .before .before .loop .m) (c .before .last-digit .result) (c .last-digit2 .result) (c .before .before .before .loop .part) (c .before .before .loop-test .taken) (c .before .before .before .loop .inv .0) (c .before .last-digit .ensures) (c .last-digit2 .ensures) ∙ c .before .before .before .loop .inv .2,
+)
 
-sub-i-2 : tie.Need-sub-i-2 Inv-loop μ-loop
-sub-i-2 c = omega arith
+last-digit-requires-3 : tie.Need-last-digit-requires-3 Inv-loop μ-loop
+last-digit-requires-3 c κs = search needs
 
-cast-scratch-2 : tie.Need-cast-scratch-2 Inv-loop μ-loop
-cast-scratch-2 c = omega arith
+slice-write-part-3 : tie.Need-slice-write-part-3 Inv-loop μ-loop
+slice-write-part-3 c = omega arith
 
-add-scratch-2 : tie.Need-add-scratch-2 Inv-loop μ-loop
-add-scratch-2 c = omega arith
-
-element-write-scratch-2 : tie.Need-element-write-scratch-2 Inv-loop μ-loop
-element-write-scratch-2 c = omega arith
+same-length : tie.Need-same-length Inv-loop μ-loop
+same-length c = simp length-set (c .before .before .before .loop .inv .1)
 
 returns : tie.Need-returns Inv-loop μ-loop
+unfolding lastDigits
 returns c =
-    let i = c .before .loop .i in
-    let m = c .before .loop .m in
-    (omega arith, omega arith, simp length-set (c .before .loop .inv .3), digit-last i m (c .before .loop .scratch) (c .before .loop .inv .0) (omega arith) (omega arith) ∙ c .before .loop .inv .4)
+    let one : c .before .before .before .loop .left ≡ 1 = omega arith in
+    digit-more 0 (c .before .before .before .loop .m) (c .last-digit3 .result) (c .before .before .before .loop .part) (omega arith) (c .last-digit3 .ensures) ∙ rw one at (c .before .before .before .loop .inv .2)
+
+same-length-2 : tie.Need-same-length-2 Inv-loop μ-loop
+same-length-2 c = omega arith
+
+returns-2 : tie.Need-returns-2 Inv-loop μ-loop
+unfolding lastDigits
+returns-2 c = let none : c .before .before .loop .left ≡ 0 = omega arith in rw none at (c .before .before .loop .inv .2)
 
 pub fill-digits-spec : {M : Type 1} → statement M
 fill-digits-spec =
@@ -69,14 +73,16 @@ fill-digits-spec =
     Inv-loop
     μ-loop
     loop-holds
-    sub-i
-    cast-scratch
-    add-scratch
-    element-write-scratch
+    last-digit-requires
+    sub-part
+    slice-write-part
+    last-digit-requires-2
+    slice-write-part-2
     loop-less
     loop-again
-    sub-i-2
-    cast-scratch-2
-    add-scratch-2
-    element-write-scratch-2
-    returns)
+    last-digit-requires-3
+    slice-write-part-3
+    same-length
+    returns
+    same-length-2
+    returns-2)

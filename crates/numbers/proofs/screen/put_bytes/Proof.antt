@@ -1,12 +1,13 @@
 -- `screen::put_bytes` meets its contract. The loop's invariant: so many bytes stand where they belong, and the rest is as it was.
-use mathlib.Core.Path.{_≡_, refl, ap, _∙_}
+use mathlib.Core.Path.{_≡_, refl, sym, ap, _∙_}
 use Prim.Native.Nat.{ℕ, _+_, _-_, _≤_}
 use native.Mathlib.Omega.{arith}
-use borrow.Author.Tests.{le-leb, lt-leb}
+use borrow.Author.Tests.{leb-true, not-true, not-false}
 use lib.ListN.{length}
 use lib.Seq.{paste, paste-zero, paste-suc, length-paste}
 use native.Mathlib.Numerals.{add-one}
 use Rattle.numbers.proofs.Screens.{pasted}
+use borrow.Author.Needs.{needs}
 use Rattle.numbers.proofs.screen.put_bytes.Statement.{statement}
 use Rattle.numbers.proofs.screen.put_bytes.Tie as tie
 
@@ -16,17 +17,14 @@ Inv-loop out₀ at bytes i₀ out i = (i ≤ length bytes) × (at + length bytes
 abbrev μ-loop : tie.MeasureT-loop
 μ-loop out₀ at bytes i₀ out i = length bytes - i
 
+has-room-requires : tie.Need-has-room-requires Inv-loop μ-loop
+has-room-requires c κs = search needs
+
 returns : tie.Need-returns Inv-loop μ-loop
-returns c = record { full = lt-leb (c .before .args .at + length (c .before .args .bytes .now)) (length (c .before .args .out .now)) (omega (arith, c .if1 .taken)); same = refl }
-
-sub-if2 : tie.Need-sub-if2 Inv-loop μ-loop
-sub-if2 c = omega arith
-
-returns-2 : tie.Need-returns-2 Inv-loop μ-loop
-returns-2 c = record { full = lt-leb (c .before .before .args .at + length (c .before .before .args .bytes .now)) (length (c .before .before .args .out .now)) (omega (arith, c .before .if1 .left, c .if2 .taken)); same = refl }
+returns c = record { full = sym (c .before .has-room .ensures) ∙ not-true _ (c .if1 .taken); same = refl }
 
 loop-holds : tie.Need-loop-holds Inv-loop μ-loop
-loop-holds c = (omega arith, omega arith, paste-zero (c .before .before .args .out .now) (c .before .before .args .at) (c .before .before .args .bytes .now))
+loop-holds c = (omega arith, leb-true (c .before .before .before .before .args .at + length (c .before .before .before .before .args .bytes .now)) (length (c .before .before .before .before .args .out .now)) (sym (c .before .has-room .ensures) ∙ not-false _ (c .if1 .left)), paste-zero (c .before .before .before .before .args .out .now) (c .before .before .before .before .args .at) (c .before .before .before .before .args .bytes .now))
 
 shared-slice-read-out : tie.Need-shared-slice-read-out Inv-loop μ-loop
 shared-slice-read-out c = omega arith
@@ -37,8 +35,8 @@ add-out c = omega arith
 slice-write-out : tie.Need-slice-write-out Inv-loop μ-loop
 slice-write-out c =
     let i = c .before .before .loop .i in
-    let out = c .before .before .before .before .before .args .out .now in
-    omega (arith, ap length (c .before .before .loop .inv .2), length-paste out (c .before .before .before .before .before .args .at) (c .before .before .before .before .before .args .bytes .now) i (omega arith) (c .before .before .loop .inv .0))
+    let out = c .before .before .before .before .before .before .before .args .out .now in
+    omega (arith, ap length (c .before .before .loop .inv .2), length-paste out (c .before .before .before .before .before .before .before .args .at) (c .before .before .before .before .before .before .before .args .bytes .now) i (omega arith) (c .before .before .loop .inv .0))
 
 add-i : tie.Need-add-i Inv-loop μ-loop
 add-i c = omega arith
@@ -49,30 +47,30 @@ loop-less c = omega arith
 loop-again : tie.Need-loop-again Inv-loop μ-loop
 loop-again c =
     let i = c .before .before .loop .i in
-    let out = c .before .before .before .before .before .args .out .now in
-    let bs = c .before .before .before .before .before .args .bytes .now in
-    let at = c .before .before .before .before .before .args .at in (
+    let out = c .before .before .before .before .before .before .before .args .out .now in
+    let bs = c .before .before .before .before .before .before .before .args .bytes .now in
+    let at = c .before .before .before .before .before .before .before .args .at in (
       omega arith,
       c .before .before .loop .inv .1,
       rw (c .before .before .loop .inv .2, add-one i) (paste-suc out at bs i 0 (omega arith) (c .before .loop-test .taken)),
     )
 
-add-t5 : tie.Need-add-t5 Inv-loop μ-loop
-add-t5 c = omega arith
+add-t6 : tie.Need-add-t6 Inv-loop μ-loop
+add-t6 c = omega arith
 
 same-length : tie.Need-same-length Inv-loop μ-loop
 same-length c =
-    ap length (c .before .loop .inv .2) ∙ length-paste (c .before .before .before .before .args .out .now) (c .before .before .before .before .args .at) (c .before .before .before .before .args .bytes .now) (c .before .loop .i) (omega arith) (c .before .loop .inv .0)
+    ap length (c .before .loop .inv .2) ∙ length-paste (c .before .before .before .before .before .before .args .out .now) (c .before .before .before .before .before .before .args .at) (c .before .before .before .before .before .before .args .bytes .now) (c .before .loop .i) (omega arith) (c .before .loop .inv .0)
 
-returns-3 : tie.Need-returns-3 Inv-loop μ-loop
-returns-3 c =
+returns-2 : tie.Need-returns-2 Inv-loop μ-loop
+returns-2 c =
     let i = c .before .loop .i in
-    let out = c .before .before .before .before .args .out .now in
-    let bs = c .before .before .before .before .args .bytes .now in
-    let at = c .before .before .before .before .args .at in
+    let out = c .before .before .before .before .before .before .args .out .now in
+    let bs = c .before .before .before .before .before .before .args .bytes .now in
+    let at = c .before .before .before .before .before .before .args .at in
     let n : i ≡ length bs = omega (arith, c .loop-test .left) in
     record {
-      fits = le-leb (at + length bs) (length out) (c .before .loop .inv .1);
+      fits = sym (c .before .before .before .has-room .ensures) ∙ not-false _ (c .before .before .if1 .left);
       next = ap (λ (k : ℕ). at + k) n;
       whole = c .before .loop .inv .2 ∙ pasted out at bs i n;
     }
@@ -83,9 +81,8 @@ put-bytes-spec =
     (tie.spec
     Inv-loop
     μ-loop
+    has-room-requires
     returns
-    sub-if2
-    returns-2
     loop-holds
     shared-slice-read-out
     add-out
@@ -93,6 +90,6 @@ put-bytes-spec =
     add-i
     loop-less
     loop-again
-    add-t5
+    add-t6
     same-length
-    returns-3)
+    returns-2)
