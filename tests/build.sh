@@ -49,9 +49,11 @@ build_engine() {
     fi
 }
 
-# build_native NAME SOURCE_FOLDER: a program that calls the engine in its own process, and the Rust too where it is at hand;
-# sets `program` to it
+# build_native NAME SOURCE_FOLDER [FLAG..]: a program that calls the engine in its own process, and the Rust too where it is
+# at hand; sets `program` to it
 build_native() {
+    local name=$1 folder=$2
+    shift 2
     local how=without_rust with="--cfg without_rust" rust=
     if build_oracle; then
         how=with_rust rust=target/oracle/libpl_0.rlib with="-L target/oracle --extern pl_0=target/oracle/libpl_0.rlib"
@@ -62,10 +64,10 @@ build_native() {
     if newer "$native" tests/native "$out/libcommon.rlib" $rust; then
         rustc $flags --crate-type rlib --crate-name native -o "$native" --extern common="$out/libcommon.rlib" $with tests/native/lib.rs
     fi
-    program=$out/$1_$how
+    program=$out/${name}_$how
     if newer "$program" "$engine" "$native" || [ "$(cat "$program.engine" 2>/dev/null)" != "$engine" ]; then
         rm -f "$program"
     fi
-    build_program "$1_$how" "$2" --extern native="$native" $with -C link-arg="$engine"
+    build_program "${name}_$how" "$folder" --extern native="$native" $with -C link-arg="$engine" "$@"
     echo "$engine" >"$program.engine"
 }

@@ -5,6 +5,10 @@
 // Both run the code that the Rust's translator makes of LONG.pl0, and a short program that is called over and over. The two
 // take turns, so that whatever else the computer does falls on both. Printed are the least processor time of each, and the
 // median of the rounds' ratios, which a busy moment of one round does not move.
+#[path = "../clock.rs"]
+mod clock;
+
+use clock::now;
 use std::fs::File;
 use std::os::fd::AsRawFd;
 use std::ptr::NonNull;
@@ -20,13 +24,6 @@ struct Ended {
     out_len: usize,
     lines: usize,
     steps: u32,
-}
-
-#[repr(C)]
-#[derive(Default)]
-struct Time {
-    seconds: i64,
-    nanoseconds: i64,
 }
 
 extern "C" {
@@ -45,7 +42,6 @@ extern "C" {
         cells: *mut i64,
         cells_count: usize,
     ) -> Ended;
-    fn clock_gettime(clock: i32, time: *mut Time) -> i32;
     fn dup(fd: i32) -> i32;
     fn dup2(from: i32, to: i32) -> i32;
 }
@@ -56,7 +52,6 @@ const ROUNDS: usize = 31;
 const CELLS: usize = 4096;
 const OUT: usize = 4096;
 const STANDARD_OUTPUT: i32 = 1;
-const THREAD_TIME: i32 = 3;
 
 struct Code {
     manager: PCodeManager,
@@ -98,13 +93,6 @@ fn run(code: &Code, out: &mut [u8], cells: &mut [i64]) -> Ended {
     assert_eq!((ended.number, ended.lines), (0, 0));
     assert!(ended.out_len <= out.len());
     ended
-}
-
-// The processor time of this thread, which does not run on while another has the processor.
-fn now() -> f64 {
-    let mut time = Time::default();
-    assert_eq!(unsafe { clock_gettime(THREAD_TIME, &mut time) }, 0);
-    time.seconds as f64 + time.nanoseconds as f64 * 1e-9
 }
 
 fn seconds(calls: u32, mut work: impl FnMut()) -> f64 {

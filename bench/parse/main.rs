@@ -82,7 +82,8 @@ fn read_deep(stack: usize, kind: &str) {
     let text = deepest(kind);
     let mut tree = vec![0; TREE];
     let work = move || parse(text.as_bytes(), &mut tree);
-    let number = std::thread::Builder::new().stack_size(stack).spawn(work).expect("a thread").join().expect("an answer");
+    let number =
+        std::thread::Builder::new().stack_size(stack).spawn(work).expect("a thread").join().expect("an answer");
     assert_eq!(number, 0, "{kind}");
 }
 

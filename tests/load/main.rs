@@ -3,11 +3,13 @@
 //!   load case SEED PLACE                        one case of these alone, shown first
 //!   load stacks                                 the smallest stacks that compile, run and walk can be called on
 //!   load slowest                                the slowest texts and steps
+//!   load numbers                                numbers of every length, in rooms of every size around them
 //!   load bites                                  are faults noticed?
 mod bites;
 mod fault;
 mod harness;
 mod lent;
+mod numbers;
 mod promises;
 mod signal;
 mod sizes;
@@ -58,6 +60,7 @@ fn done(words: &[&str], out: &File) -> Result<bool, String> {
         ["stacks"] => stacks::search(out),
         ["stack-trial", entry, bytes] => stacks::trial(entry, number(bytes)? as usize),
         ["slowest"] => slowest::print(out).map_err(|e| e.to_string()),
+        ["numbers"] => numbers::all(out),
         ["bites"] => bites::all(out),
         ["past-the-room"] => bites::past_the_room(),
         [seed, count, seconds] => work::work(number(seed)?, number(count)?, number(seconds)?, CALL_STACK, out),

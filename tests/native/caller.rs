@@ -1,7 +1,6 @@
 //! A thread with a small stack of our own, between unreadable pages, on which the engine is called; and how much of that stack
 //! a call took.
 use crate::pages::Pages;
-use std::cell::Cell;
 use std::ffi::c_void;
 use std::sync::mpsc::{sync_channel, Receiver, SyncSender};
 
@@ -28,8 +27,8 @@ extern "C" {
 }
 
 const SIGNAL_STACK: usize = 1 << 16;
-/// What an unused byte of the stack holds.
-const UNUSED: u8 = 0xa7;
+/// What an unused word of the stack holds.
+const UNUSED: u64 = 0xa7a7_a7a7_a7a7_a7a7;
 const WORD: usize = 8;
 
 /// A call that waits to be made.
@@ -47,8 +46,6 @@ pub struct Caller {
     jobs: SyncSender<Job>,
     done: Receiver<()>,
     stack: Pages,
-    /// How many bytes at the stack's far end the thread itself does not come to while it waits.
-    free: Cell<usize>,
 }
 
 impl Caller {
@@ -61,17 +58,12 @@ impl Caller {
         let mut attributes = ThreadAttributes([0; 64]);
         let mut thread = 0;
         let started = unsafe {
-            stack.start.write_bytes(UNUSED, stack.length);
             pthread_attr_init(&mut attributes) == 0
                 && pthread_attr_setstack(&mut attributes, stack.start as *mut c_void, stack.length) == 0
                 && pthread_create(&mut thread, &attributes, make_calls, ends as *mut c_void) == 0
         };
         assert!(started, "no thread to be had on {bytes} bytes");
-        let caller = Caller { jobs, done, stack, free: Cell::new(0) };
-        caller.call(|| ());
-        caller.call(|| ());
-        caller.free.set(caller.unused());
-        caller
+        Caller { jobs, done, stack }
     }
 
     /// Makes the call on the thread and waits for it.
@@ -87,24 +79,36 @@ impl Caller {
         answer.expect("an answer")
     }
 
-    /// Makes the call and says how many bytes of stack it took, from the frame that makes it down. A call that took less than
-    /// the thread's own waiting does is said to take as much as that.
+    /// Makes the call and says how many bytes of stack it took, from the frame that makes it down.
     pub fn measured<R>(&self, job: impl FnOnce() -> R) -> (R, usize) {
-        unsafe { self.stack.start.write_bytes(UNUSED, self.free.get()) };
-        let (answer, from) = self.call(|| {
-            let here = 0u8;
-            let from = std::hint::black_box(&here) as *const u8 as usize;
-            (job(), from)
-        });
-        let deepest = self.stack.start as usize + self.unused().min(self.free.get());
-        (answer, from - deepest)
+        let start = self.stack.start as usize;
+        self.call(|| {
+            // no function is called but the job: it would come to the stack below this frame itself
+            let end = stack_pointer();
+            for word in (start..end).step_by(WORD) {
+                unsafe { (word as *mut u64).write_volatile(UNUSED) };
+            }
+            let answer = job();
+            let mut words = (start..end).step_by(WORD);
+            let deepest = words.find(|&word| unsafe { (word as *const u64).read_volatile() } != UNUSED);
+            (answer, end - deepest.unwrap_or(end))
+        })
     }
+}
 
-    /// Bytes at the stack's far end that nothing was written to, in whole words.
-    fn unused(&self) -> usize {
-        let words = self.stack.bytes().chunks_exact(WORD);
-        words.take_while(|word| **word == [UNUSED; WORD]).count() * WORD
-    }
+/// Where the frame that asks ends.
+#[inline(always)]
+fn stack_pointer() -> usize {
+    let pointer: usize;
+    #[cfg(target_arch = "x86_64")]
+    unsafe {
+        std::arch::asm!("mov {}, rsp", out(reg) pointer)
+    };
+    #[cfg(target_arch = "aarch64")]
+    unsafe {
+        std::arch::asm!("mov {}, sp", out(reg) pointer)
+    };
+    pointer
 }
 
 extern "C" fn make_calls(ends: *mut c_void) -> *mut c_void {
