@@ -2,7 +2,7 @@
 ghost use Rattle.std.specs.Prelude.{◌-◌, ◌≤◌, length};
 
 // What reading gives: so many bytes in the room; or a call failed, and errno has the reason.
-#[derive(Drop)]
+#[derive(Clone, Copy)]
 pub struct Got {
     pub is_failed: bool,
     pub bytes: usize,

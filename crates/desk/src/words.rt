@@ -12,7 +12,7 @@ fn is_word(word: &[u8], text: &[u8]) -> bool
     same(word, text)
 }
 
-#[derive(Drop)]
+#[derive(Clone, Copy)]
 pub enum Command {
     Run,
     Walk,
@@ -52,7 +52,7 @@ pub fn command_of(word: &[u8]) -> Command
     Command::Unknown
 }
 
-#[derive(Drop)]
+#[derive(Clone, Copy)]
 pub enum Choice {
     Help,
     Steps,
@@ -86,7 +86,7 @@ pub fn choice_of(word: &[u8]) -> Choice
     Choice::Unknown
 }
 
-#[derive(Drop)]
+#[derive(Clone, Copy)]
 pub enum Count {
     Is(u32),
     Bad,
@@ -121,7 +121,7 @@ pub fn count_of(word: &[u8]) -> Count
 }
 
 // What the words behind the command ask for.
-#[derive(Drop)]
+#[derive(Clone, Copy)]
 pub struct Asked {
     pub help: bool,
     pub steps: bool,
@@ -184,7 +184,7 @@ impl Asked {
     }
 }
 
-#[derive(Drop)]
+#[derive(Clone, Copy)]
 pub enum Next {
     Asked(Asked),
     // the budget's number is no number

@@ -26,7 +26,7 @@ const ARITHMETIC: u32 = 1;
 const COMPARISON: u32 = 7;
 
 // What holds while a body is translated: how many rows there are, the scope and the level.
-#[derive(Drop)]
+#[derive(Clone, Copy)]
 pub struct Env {
     pub used: usize,
     pub scope: u32,
@@ -34,7 +34,7 @@ pub struct Env {
 }
 
 // The row that a name finds, or that it finds none.
-#[derive(Drop)]
+#[derive(Clone, Copy)]
 pub enum Looked {
     Row(Symbol),
     Nothing,

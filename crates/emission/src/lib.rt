@@ -53,7 +53,7 @@ const LEVEL_ABOVE: u8 = 13;
 const TOO_MANY_INSTRUCTIONS: u8 = 15;
 
 // A place or a count that was reached, or the number of a refusal.
-#[derive(Drop)]
+#[derive(Clone, Copy)]
 pub enum Made {
     At(usize),
     Refused(u8),

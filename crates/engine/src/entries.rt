@@ -13,7 +13,7 @@ pub const ROOM_TOO_SMALL: u8 = 24;
 
 // Number and code length, 0 if refused.
 #[repr(C)]
-#[derive(Drop)]
+#[derive(Clone, Copy)]
 pub struct Compiled {
     pub number: u8,
     pub length: usize,

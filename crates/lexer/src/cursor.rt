@@ -8,7 +8,7 @@ use crate::token::Token;
 // How many tokens may be looked at.
 const MAX_TOKENS: usize = 8192;
 
-#[derive(Drop)]
+#[derive(Clone, Copy)]
 pub struct Cursor {
     // The token that is held, once it was looked at.
     pub token: Token,

@@ -19,7 +19,7 @@ const OUTPUT_FULL: u8 = 23;
 
 // Number, bytes written.
 #[repr(C)]
-#[derive(Drop)]
+#[derive(Clone, Copy)]
 pub struct Listed {
     pub number: u8,
     pub out_len: usize,

@@ -9,7 +9,7 @@ use desk::words::Asked;
 use machine::Ended;
 
 // By its code, on its tree, or first the one and then the other.
-#[derive(Drop)]
+#[derive(Clone, Copy)]
 pub enum Way {
     Run,
     Walk,

@@ -24,7 +24,7 @@ const PROMPT_LENGTH: usize = 18;
 const TURNS: usize = 65538;
 
 // Where the session stands, or how it ended.
-#[derive(Drop)]
+#[derive(Clone, Copy)]
 pub enum Stage {
     // more entries may come
     Open,
@@ -41,7 +41,7 @@ pub enum Stage {
 }
 
 // The session so far: bytes of entries, bytes of the screen that are shown, and the last answer.
-#[derive(Drop)]
+#[derive(Clone, Copy)]
 pub struct State {
     pub stage: Stage,
     pub used: usize,

@@ -11,7 +11,7 @@ pub const CELLS: usize = 4096;
 pub const END: i64 = 4096;
 
 // Place of the next instruction, base, top.
-#[derive(Drop)]
+#[derive(Clone, Copy)]
 pub struct Frame {
     pub pc: usize,
     pub base: i64,
@@ -19,7 +19,7 @@ pub struct Frame {
 }
 
 // The base so many levels up, or a link on the way is outside the cells.
-#[derive(Drop)]
+#[derive(Clone, Copy)]
 pub enum Base {
     At(i64),
     Outside,

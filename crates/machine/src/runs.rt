@@ -19,7 +19,7 @@ const MAX_CODE: usize = 4096;
 
 // Number, output length, lines taken, steps completed.
 #[repr(C)]
-#[derive(Drop)]
+#[derive(Clone, Copy)]
 pub struct Ended {
     pub number: u8,
     pub out_len: usize,
@@ -29,7 +29,7 @@ pub struct Ended {
 
 // Quiet steps came to one that talks: the frame there, the budget that is left after it, and what it exchanges. Or the run
 // ended: its number, the frame, and the budget that is left.
-#[derive(Drop)]
+#[derive(Clone, Copy)]
 pub enum Pause {
     Talks(Frame, u32, Talk),
     Ends(u8, Frame, u32),

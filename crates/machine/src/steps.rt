@@ -3,7 +3,7 @@ use crate::frames::Frame;
 
 // A step goes on or halts with a frame, or is stopped with a number; or it has something to exchange with the outside, for
 // which there are cells: a number to write, a newline, or a line to read into a cell.
-#[derive(Drop)]
+#[derive(Clone, Copy)]
 pub enum Does {
     Next(Frame),
     Halt(Frame),

@@ -11,7 +11,7 @@ use numbers::line::{Taken, next_entry};
 use numbers::screen::{Put, put_newline, put_number, put_prompt};
 
 // What is exchanged: a number to write, a newline, or a line to read into a cell.
-#[derive(Drop)]
+#[derive(Clone, Copy)]
 pub enum Talk {
     Write(i64),
     NewLine,
@@ -19,7 +19,7 @@ pub enum Talk {
 }
 
 // Where the input goes on, how much output there is, lines taken.
-#[derive(Drop)]
+#[derive(Clone, Copy)]
 pub struct Tape {
     pub at: usize,
     pub out: usize,
@@ -27,7 +27,7 @@ pub struct Tape {
 }
 
 // The exchange is made, or refused with a number.
-#[derive(Drop)]
+#[derive(Clone, Copy)]
 pub enum Talked {
     On(Frame, Tape),
     Stop(u8),

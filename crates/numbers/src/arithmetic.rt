@@ -25,7 +25,7 @@ const SHORT_GREATEST: i64 = 2147483647;
 const SHORT_LEAST: i64 = -2147483648;
 
 // A value, or the number of the refusal.
-#[derive(Drop)]
+#[derive(Clone, Copy)]
 pub enum Answer {
     Value(i64),
     Refused(u8),

@@ -10,21 +10,21 @@ use crate::arithmetic::{NEGATIVE_MAGNITUDE, POSITIVE_MAGNITUDE};
 use crate::bytes::{is_blank, is_digit};
 
 // What a field means.
-#[derive(Drop)]
+#[derive(Clone, Copy)]
 pub enum Entry {
     Number(i64),
     Bad,
 }
 
 // A line's number and where the next line starts; or the line is bad or missing.
-#[derive(Drop)]
+#[derive(Clone, Copy)]
 pub enum Taken {
     Got(i64, usize),
     Bad,
 }
 
 // What a run of bytes means as digits, up to a bound.
-#[derive(Drop)]
+#[derive(Clone, Copy)]
 enum Digits {
     Value(u64),
     Bad,

@@ -7,7 +7,7 @@ ghost use Rattle.numbers.specs.Answers.{Puts};
 use crate::arithmetic::magnitude;
 
 // Where the next bytes go; or these did not fit, and nothing is changed.
-#[derive(Drop)]
+#[derive(Clone, Copy)]
 pub enum Put {
     At(usize),
     Full,

@@ -6,7 +6,7 @@ use crate::see::Seen;
 use lexer::Cursor;
 
 // A node, or several, that end in the tree at that place; nothing, where a statement fails quietly; or a refusal.
-#[derive(Drop)]
+#[derive(Clone, Copy)]
 pub enum Answer {
     Node(usize, Cursor),
     Nothing(Cursor),

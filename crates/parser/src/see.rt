@@ -18,7 +18,7 @@ pub const TOKEN_MISSING: usize = 5;
 pub const TOO_MANY_TOKENS: usize = 8;
 
 // The cursor with a token that was looked at, or the refusal that looking at it gives.
-#[derive(Drop)]
+#[derive(Clone, Copy)]
 pub enum Seen {
     At(Cursor),
     Refused(usize),

@@ -6,21 +6,21 @@ use crate::parts::{is_same, part, part_length, parts};
 use numbers::line::Entry;
 
 // How many elements were read into a lent list.
-#[derive(Drop)]
+#[derive(Clone, Copy)]
 pub enum Count {
     Of(usize),
     Bad,
 }
 
 // A number up to a bound.
-#[derive(Drop)]
+#[derive(Clone, Copy)]
 pub enum Number {
     Of(u32),
     Bad,
 }
 
 // What a code place holds.
-#[derive(Drop)]
+#[derive(Clone, Copy)]
 pub enum Place {
     Of(i8, u16, i64),
     Bad,

@@ -14,7 +14,7 @@ const NEWLINE: u8 = b'\n';
 
 // After a turn: how many bytes of the next line are there, and whether it is what remains of a line too long; or the input
 // is over.
-#[derive(Drop)]
+#[derive(Clone, Copy)]
 pub enum Turn {
     More(usize, bool),
     Over,

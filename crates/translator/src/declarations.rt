@@ -11,7 +11,7 @@ use emission::Made;
 use symbols::{Added, CONSTANT, PROCEDURE, Symbol, VARIABLE};
 
 // Where declarations go: the scope, the level and the first address.
-#[derive(Drop)]
+#[derive(Clone, Copy)]
 pub struct Frame {
     pub scope: u32,
     pub level: u32,

@@ -18,7 +18,7 @@ use emission::{INT, JMP, Made, OPR, RETURN, STA, emit, fix};
 const HEADER: usize = 4;
 
 // How far the translation of a block has come: its scope and level, the rows there are, its next free address, and the next place of the code.
-#[derive(Drop)]
+#[derive(Clone, Copy)]
 pub struct Place {
     pub scope: u32,
     pub level: u32,
@@ -28,7 +28,7 @@ pub struct Place {
 }
 
 // How far the procedures of a block lead, or the number of a refusal.
-#[derive(Drop)]
+#[derive(Clone, Copy)]
 pub enum Done {
     Finished(Place),
     Refused(u8),

@@ -49,21 +49,21 @@ const AT_LEAST: u32 = 4;
 const GREATER: u32 = 5;
 
 // How many rows there are, and how many variables.
-#[derive(Drop)]
+#[derive(Clone, Copy)]
 pub struct Env {
     pub used: usize,
     pub vars: usize,
 }
 
 // The budget that is left, and the top that the machine would have.
-#[derive(Drop)]
+#[derive(Clone, Copy)]
 pub struct Clock {
     pub left: u32,
     pub top: usize,
 }
 
 // A value, or the refusal's number; and the clock.
-#[derive(Drop)]
+#[derive(Clone, Copy)]
 pub enum Valued {
     Value(i64, Clock),
     Stopped(u8, Clock),

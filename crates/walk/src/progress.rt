@@ -7,7 +7,7 @@ ghost use Rattle.walk.specs.Holds.{with_clock, Steps};
 use crate::expressions::{BUDGET_SPENT, Clock, Valued};
 
 // The clock, where the next line of the input starts, how many bytes are written, and how many lines were taken.
-#[derive(Drop)]
+#[derive(Clone, Copy)]
 pub struct Progress {
     pub clock: Clock,
     pub at: usize,
@@ -16,7 +16,7 @@ pub struct Progress {
 }
 
 // A state, after a whole statement or at a refusal.
-#[derive(Drop)]
+#[derive(Clone, Copy)]
 pub enum Outcome {
     Done(Progress),
     Refused(u8, Progress),

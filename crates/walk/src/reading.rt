@@ -20,7 +20,7 @@ const BAD_ENTRY: u8 = 22;
 const OUTPUT_FULL: u8 = 23;
 
 // What is read: a number and the state after it, or a refusal.
-#[derive(Drop)]
+#[derive(Clone, Copy)]
 pub enum Entered {
     Number(i64, Progress),
     Stopped(u8, Progress),

@@ -16,7 +16,7 @@ use crate::storing::assign;
 use crate::writing::writes;
 
 // What a condition that was tested says.
-#[derive(Drop)]
+#[derive(Clone, Copy)]
 pub enum Tested {
     Passed(Progress),
     Failed(Progress),

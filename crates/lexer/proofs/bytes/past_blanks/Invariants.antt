@@ -1,0 +1,14 @@
+-- `bytes::past_blanks` meets its contract.
+use borrow.Author.Rules.{rules}
+use mathlib.Core.Path.{◌≡◌, sym, ◌∙◌}
+use Prim.Native.Nat.{◌-◌}
+use lib.ListN.{length}
+use Rattle.numbers.specs.Bytes.{is_blank}
+use Rattle.lexer.proofs.Runs.{stop, run_more, run_stop, run_past}
+use Rattle.lexer.proofs.bytes.past_blanks.Given as goal
+
+abbrev pub invariant-loop-i : goal.invariant-loop-i
+invariant-loop-i l = stop is_blank l.text l.i ≡ stop is_blank l.text l.at
+
+abbrev pub decreases-loop-i : goal.decreases-loop-i
+decreases-loop-i l = length l.text - l.i

@@ -1,0 +1,16 @@
+-- `words::keyword_of_7` meets its contract.
+use mathlib.Core.Path.{sym, ◌∙◌}
+use borrow.Author.Rules.{rules}
+use Rattle.numbers.specs.Bytes.{bytes}
+use Rattle.lexer.specs.Marks.{keywords}
+use Rattle.lexer.specs.Spelling.{sized}
+use Rattle.lexer.proofs.Tables.{named_hit, named_miss, named_none}
+use Rattle.lexer.proofs.words.keyword_of_7.Goals as goal
+
+pub returns-then-same : goal.returns-then-same
+unfolding sized keywords bytes
+returns-then-same c = sym (named_hit _ _ _ _ (sym c.same.ensures ∙ c.if-same.true))
+
+pub returns : goal.returns
+unfolding sized keywords bytes
+returns c = sym (named_miss _ _ _ _ (sym c.same.ensures ∙ c.if-same.false) ∙ named_none _ _)

@@ -1,0 +1,14 @@
+-- `words::same` meets its contract.
+use borrow.Author.Rules.{rules}
+use mathlib.Core.Path.{◌≡◌, refl, sym, ◌∙◌}
+use Prim.Native.Nat.{◌≤◌, ◌-◌}
+use lib.ListN.{length, drop}
+use Rattle.numbers.specs.Bytes.{eq_list}
+use Rattle.lexer.proofs.Tables.{other_length, same_more, same_stop, same_past}
+use Rattle.lexer.proofs.words.same.Given as goal
+
+abbrev pub invariant-loop-i : goal.invariant-loop-i
+invariant-loop-i l = (l.i ≤ length l.a) × (eq_list (drop l.i l.a) (drop l.i l.b) ≡ eq_list l.a l.b)
+
+abbrev pub decreases-loop-i : goal.decreases-loop-i
+decreases-loop-i l = length l.a - l.i

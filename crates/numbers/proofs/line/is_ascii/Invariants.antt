@@ -1,0 +1,15 @@
+-- `line::is_ascii` meets its contract.
+use mathlib.Core.Path.{◌≡◌, refl, sym, ◌∙◌}
+use Prim.Native.Nat.{◌-◌, ◌≤◌}
+use native.Mathlib.Omega.{arith}
+use borrow.Author.Tests.{lt-ltb, le-ltb}
+use lib.ListN.{length, drop}
+use Rattle.numbers.specs.Bytes.{is_ascii, every}
+use Rattle.numbers.proofs.Scans.{every_end, every_stop, every_more}
+use Rattle.numbers.proofs.line.is_ascii.Given as goal
+
+abbrev pub invariant-loop-i : goal.invariant-loop-i
+invariant-loop-i l = (l.i ≤ length l.s) × (every is_ascii (drop l.i l.s) ≡ every is_ascii l.s)
+
+abbrev pub decreases-loop-i : goal.decreases-loop-i
+decreases-loop-i l = length l.s - l.i

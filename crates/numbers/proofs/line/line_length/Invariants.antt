@@ -1,0 +1,17 @@
+-- `line::line_length` meets its contract.
+use borrow.Author.Tests.{eq-eqb, ne_eqb}
+use mathlib.Core.Path.{◌≡◌, ap}
+use mathlib.Core.Bool.{not}
+use Prim.Native.Nat.{◌+◌, ◌-◌, ◌≤◌}
+use native.Mathlib.Omega.{arith}
+use lib.ListN.{length, drop}
+use Rattle.numbers.specs.Bytes.{span}
+use Rattle.numbers.specs.Line.{not_newline}
+use Rattle.numbers.proofs.Scans.{span_end, span_stop, span_more}
+use Rattle.numbers.proofs.line.line_length.Given as goal
+
+abbrev pub invariant-loop-i : goal.invariant-loop-i
+invariant-loop-i l = (l.i ≤ length l.s) × (l.i + span not_newline (drop l.i l.s) ≡ span not_newline l.s)
+
+abbrev pub decreases-loop-i : goal.decreases-loop-i
+decreases-loop-i l = length l.s - l.i

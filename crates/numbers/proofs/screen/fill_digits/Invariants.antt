@@ -1,0 +1,16 @@
+-- `screen::fill_digits` meets its contract. The loop's invariant: the digits that are left, in front of those written, are the digits of the number.
+use mathlib.Core.Path.{◌≡◌, refl, ◌∙◌}
+use Prim.Native.Nat.{◌≤◌}
+use native.Mathlib.Omega.{arith}
+use lib.IntN.{pos}
+use lib.ListN.{length, drop, length-set}
+use Rattle.numbers.specs.Screen.{decimal}
+use Rattle.numbers.proofs.Decimals.{last_digits_of, digits_begin, digit_more, pair_more}
+use borrow.Author.Rules.{rules}
+use Rattle.numbers.proofs.screen.fill_digits.Given as goal
+
+abbrev pub invariant-loop-left : goal.invariant-loop-left
+invariant-loop-left l = (l.left ≤ length l.part) × (length l.part ≡ length l.initial.part) × (last_digits_of l.left l.m (drop l.left l.part) ≡ decimal (pos l.n))
+
+abbrev pub decreases-loop-left : goal.decreases-loop-left
+decreases-loop-left l = l.left

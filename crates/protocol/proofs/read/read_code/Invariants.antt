@@ -1,0 +1,15 @@
+-- `read::read_code` meets its contract.
+use mathlib.Core.Path.{◌≡◌, sym}
+use Prim.Native.Nat.{◌-◌, ◌≤◌}
+use native.Mathlib.Omega.{arith}
+use borrow.Author.Rules.{rules}
+use lib.ListN.{length, length-drop, length-set}
+use lib.Seq.{length-take-le}
+use Rattle.numbers.proofs.Scans.{rest_of}
+use Rattle.protocol.proofs.read.read_code.Given as goal
+
+abbrev pub invariant-loop-at : goal.invariant-loop-at
+invariant-loop-at l = (l.at ≤ length l.word) × (l.n ≤ length l.kinds) × (length l.kinds ≡ length l.initial.kinds) × (length l.levels ≡ length l.initial.levels) × (length l.operands ≡ length l.initial.operands) × (length l.kinds ≤ length l.levels) × (length l.kinds ≤ length l.operands)
+
+abbrev pub decreases-loop-at : goal.decreases-loop-at
+decreases-loop-at l = length l.word - l.at

@@ -1,0 +1,12 @@
+-- The proof of `same`.
+use native.Mathlib.Omega.{arith}
+use mathlib.Core.Path.{sym}
+use Prim.Native.Nat.{◌≤◌, ◌-◌}
+use Rattle.symbols.proofs.Spelling.{Same, other_length, same_start, same_more, same_not, same_end}
+use Rattle.symbols.proofs.names.same.Given as goal
+
+abbrev pub invariant-loop-k : goal.invariant-loop-k
+invariant-loop-k l = (l.k ≤ l.n) × Same l.text l.a l.b l.n l.k
+
+abbrev pub decreases-loop-k : goal.decreases-loop-k
+decreases-loop-k l = l.n - l.k

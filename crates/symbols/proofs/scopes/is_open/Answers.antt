@@ -1,0 +1,10 @@
+-- The proof of `is_open`.
+use borrow.Author.Rules.{rules}
+use Rattle.symbols.proofs.Seeing.{open_zero, open_is}
+use Rattle.symbols.proofs.scopes.is_open.Goals as goal
+
+pub returns-then-scope-eq0 : goal.returns-then-scope-eq0
+returns-then-scope-eq0 c = open_zero _ _ c.if-scope-eq0.true
+
+pub returns : goal.returns
+returns c = open_is _ _ _ c.wide.ensures c.if-scope-eq0.false

@@ -1,0 +1,39 @@
+-- The proof of `open_rows`.
+use native.Mathlib.Omega.{arith}
+use Prim.Native.Nat.{◌≤◌, ◌-◌}
+use Rattle.symbols.proofs.Seeing.{plain_length, Opening, open_start, open_linked, open_lies, open_more, open_skip, open_end}
+use mathlib.Core.Logic.{⊎_elim}
+use Rattle.symbols.proofs.scopes.open_rows.Goals as goal
+
+pub loop-k-init : goal.loop-k-init
+loop-k-init c = (omega arith, open_start _)
+
+pub opens-requires : goal.opens-requires
+opens-requires c = open_linked _ _ _ _ c.requires.linked c.requires.unopened c.loop-k.invariant.1 c.loop-k.invariant.0 c.loop-k-test.true
+
+pub overflow_mul-table : goal.overflow_mul-table
+overflow_mul-table c = omega (arith, c.requires.linked.most, open_lies _ _ _ _ c.requires.linked c.requires.unopened c.loop-k.invariant.1 c.loop-k.invariant.0 c.loop-k-test.true _ c.opens.ensures)
+
+pub overflow_add-table : goal.overflow_add-table
+overflow_add-table c = omega (arith, c.requires.linked.most, open_lies _ _ _ _ c.requires.linked c.requires.unopened c.loop-k.invariant.1 c.loop-k.invariant.0 c.loop-k-test.true _ c.opens.ensures)
+
+pub offset_bounds-table-k : goal.offset_bounds-table-k
+offset_bounds-table-k c = omega (arith, c.requires.linked.most, open_lies _ _ _ _ c.requires.linked c.requires.unopened c.loop-k.invariant.1 c.loop-k.invariant.0 c.loop-k-test.true _ c.opens.ensures)
+
+pub bounds-table-k : goal.bounds-table-k
+bounds-table-k c = omega (arith, c.requires.linked.most, open_lies _ _ _ _ c.requires.linked c.requires.unopened c.loop-k.invariant.1 c.loop-k.invariant.0 c.loop-k-test.true _ c.opens.ensures)
+
+pub overflow_add-k : goal.overflow_add-k
+overflow_add-k c = omega (arith, c.requires.linked.most, open_lies _ _ _ _ c.requires.linked c.requires.unopened c.loop-k.invariant.1 c.loop-k.invariant.0 c.loop-k-test.true _ c.opens.ensures)
+
+pub loop-k-preserved : goal.loop-k-preserved
+loop-k-preserved c = ⊎_elim
+    (λ w. (omega arith, rw w.1 (open_more _ _ _ _ c.requires.linked c.requires.unopened c.loop-k.invariant.1 c.loop-k.invariant.0 c.loop-k-test.true _ c.opens.ensures w.0.taken)))
+    (λ w. (omega arith, rw w.1 (open_skip _ _ _ _ c.requires.linked c.requires.unopened c.loop-k.invariant.1 c.loop-k.invariant.0 c.loop-k-test.true _ c.opens.ensures w.0.left)))
+    c.if-opens.branch
+
+pub shape_of-table : goal.shape_of-table
+shape_of-table c = plain_length c.loop-k.invariant.1.plain
+
+pub returns : goal.returns
+returns c = open_end _ _ _ _ c.requires.linked c.requires.unopened c.loop-k.invariant.1 c.loop-k.invariant.0 c.loop-k-test.false
