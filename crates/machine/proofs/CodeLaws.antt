@@ -18,7 +18,6 @@ use Rattle.machine.specs.declared.frames.Frame.{Frame}
 use Rattle.machine.specs.declared.steps.Does.{Does}
 use Rattle.machine.specs.declared.steps.Does.TheVariants.{Stop}
 use Rattle.machine.specs.Machine.{operate, perform, step}
-use Rattle.machine.specs.Frames.{at}
 use Rattle.machine.specs.Steps.{code_of, Did, one_of, two_of, oper_few}
 
 -- a number is one operator's

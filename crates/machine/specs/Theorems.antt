@@ -9,7 +9,7 @@ use Rattle.machine.specs.declared.talk.Talk.{Talk}
 use Rattle.machine.specs.declared.talk.Tape.{Tape}
 use Rattle.machine.specs.declared.talk.Talked.TheVariants as T
 use Rattle.machine.specs.declared.runs.Ended as C
-use Rattle.machine.specs.Machine.{Machine, Step, next, stop, step, Ended, ended, run}
+use Rattle.machine.specs.Machine.{Machine, Step, next, stop, step, ended, run}
 use Rattle.machine.specs.Outcome.{RunOutcome, run_outcome}
 use Rattle.machine.specs.Steps.{Did}
 use Rattle.machine.specs.Talks.{Spoke}

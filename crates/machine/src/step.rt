@@ -1,7 +1,7 @@
 // One step: the instruction at the frame's place is fetched, judged and done, as far as it does not talk to the outside.
 ghost use Rattle.std.specs.Prelude.{◌≡◌, List, ℕ, length};
 ghost use Rattle.numbers.specs.Limits.{max_cells};
-ghost use Rattle.pcode.specs.Code.{Instr, RED};
+ghost use Rattle.pcode.specs.Code.{Instr};
 ghost use Rattle.machine.specs.Machine.{perform, step};
 ghost use Rattle.machine.specs.Frames.{Sound, Steady};
 ghost use Rattle.machine.specs.Steps.{Did, Listed, code_of};
@@ -17,7 +17,7 @@ use pcode::{CAL, INT, JMP, JPC, LIT, LOD, OPR, RED, STA, STO, WRT};
 // RED: a line is to be read into the cell of a level and an operand.
 fn red(cells: &[i64], level: u16, a: i64, f: Frame) -> Does
     requires { (length cells.now ≡ max_cells) × Steady f }
-    ensures { (code : List Instr) (room : ℕ) → Did code room (perform code room RED level a) f cells.now result cells.now }
+    ensures { (code : List Instr) (room : ℕ) → Did code room (perform code room Rattle.pcode.specs.Code.RED level a) f cells.now result cells.now }
 {
     let top = f.top;
     let base = f.base;
