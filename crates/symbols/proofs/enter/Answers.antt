@@ -5,7 +5,12 @@ use Rattle.symbols.proofs.Adding.{fresh_not, fresh_on}
 use Rattle.symbols.proofs.enter.Goals as goal
 
 pub declared-requires : goal.declared-requires
-declared-requires c = (c.requires.sound, (c.requires.named.lies, c.requires.scoped))
+declared-requires c =
+    record {
+      sound = c.requires.sound;
+      len_in_bounds = c.requires.named.lies;
+      scoped = c.requires.scoped;
+    }
 
 pub returns-then-declared : goal.returns-then-declared
 returns-then-declared c = fresh_not _ _ _ _ _ _ c.declared.ensures c.if-declared.true

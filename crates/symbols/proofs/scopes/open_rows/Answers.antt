@@ -4,6 +4,7 @@ use Prim.Native.Nat.{◌≤◌, ◌-◌}
 use Rattle.symbols.proofs.Seeing.{plain_length, Opening, open_start, open_linked, open_lies, open_more, open_skip, open_end}
 use mathlib.Core.Logic.{⊎_elim}
 use Rattle.symbols.proofs.scopes.open_rows.Goals as goal
+use Rattle.symbols.proofs.scopes.open_rows.Goals.{then-opens, else-opens}
 
 pub loop-k-init : goal.loop-k-init
 loop-k-init c = (omega arith, open_start _)
@@ -27,10 +28,11 @@ pub overflow_add-k : goal.overflow_add-k
 overflow_add-k c = omega (arith, c.requires.linked.most, open_lies _ _ _ _ c.requires.linked c.requires.unopened c.loop-k.invariant.1 c.loop-k.invariant.0 c.loop-k-test.true _ c.opens.ensures)
 
 pub loop-k-preserved : goal.loop-k-preserved
-loop-k-preserved c = ⊎_elim
-    (λ w. (omega arith, rw w.1 (open_more _ _ _ _ c.requires.linked c.requires.unopened c.loop-k.invariant.1 c.loop-k.invariant.0 c.loop-k-test.true _ c.opens.ensures w.0.taken)))
-    (λ w. (omega arith, rw w.1 (open_skip _ _ _ _ c.requires.linked c.requires.unopened c.loop-k.invariant.1 c.loop-k.invariant.0 c.loop-k-test.true _ c.opens.ensures w.0.left)))
-    c.if-opens.branch
+loop-k-preserved c =
+    elim c.if-opens.branch [
+      | then-opens w ↦ (omega arith, rw w.table-is (open_more _ _ _ _ c.requires.linked c.requires.unopened c.loop-k.invariant.1 c.loop-k.invariant.0 c.loop-k-test.true _ c.opens.ensures w.if-opens.true))
+      | else-opens w ↦ (omega arith, rw w.table-is (open_skip _ _ _ _ c.requires.linked c.requires.unopened c.loop-k.invariant.1 c.loop-k.invariant.0 c.loop-k-test.true _ c.opens.ensures w.if-opens.false))
+    ]
 
 pub shape_of-table : goal.shape_of-table
 shape_of-table c = plain_length c.loop-k.invariant.1.plain
