@@ -5,6 +5,7 @@ ghost use Rattle.tree.specs.Tree.{Exp, Cond, Stmt, call};
 ghost use Rattle.tree.specs.Layout.{assign_kind, if_kind, while_kind, call_kind, body_kind, read_kind, write_kind, node_no};
 ghost use Rattle.tree.specs.Standing.{NameAt, HasName, StmtAt, HasStmt, GuardAt, HasGuard};
 ghost use Rattle.pcode.specs.Operators.{read};
+ghost use Rattle.pcode.specs.Code;
 ghost use Rattle.emission.specs.Pieces.{◌⨾◌, emit_oper, jump_over};
 ghost use Rattle.emission.specs.Statements.{row_for, storing, args_code, cond_code, stmt_code};
 ghost use Rattle.emission.specs.Draft.{Emits};
@@ -215,7 +216,7 @@ fn guarded(
 ) -> Made
     requires ready { Ready text.now table.now env draft.old n }
     requires has_guard { HasGuard text.now tree.now i }
-    ensures { (c : Cond) (t : Stmt) → GuardAt text.now tree.now i c t → Emits ((cond_code (here_of text.now table.now env) c ⨾ jump_over Rattle.pcode.specs.Code.JPC 1 (stmt_code (here_of text.now table.now env) t)) n) n draft.old draft.new result }
+    ensures { (c : Cond) (t : Stmt) → GuardAt text.now tree.now i c t → Emits ((cond_code (here_of text.now table.now env) c ⨾ jump_over Code.JPC 1 (stmt_code (here_of text.now table.now env) t)) n) n draft.old draft.new result }
 {
     let a = l_exp(tree, i + 4, text, table, env, draft, n);
     let Made::At(p) = a else {

@@ -237,7 +237,13 @@ before_goes_on index i =
     let first : every not_newline (right_aligned index) ≡ true = aligned_goes_on index in
     let second : every not_newline (bytes (letters i.op)) ≡ true = goes_on (bytes (letters i.op)) (letters_solid i.op) in
     let third : every not_newline (right_aligned i.level) ≡ true = aligned_goes_on i.level in
-    simp append_assoc (rw (every_past, every_past, every_past) (goes_on (decimal i.operand) (decimal_solid i.operand)))
+    let tail : List ℕ = bytes "   " ++ decimal i.operand in
+    let behind : List ℕ = bytes " " ++ (right_aligned i.level ++ tail) in
+    simp append_assoc
+    (every_past not_newline (right_aligned index) (bytes "| " ++ (bytes (letters i.op) ++ behind)) first
+    ∙ every_past not_newline (bytes (letters i.op)) behind second
+    ∙ every_past not_newline (right_aligned i.level) tail third
+    ∙ goes_on (decimal i.operand) (decimal_solid i.operand))
 
 -- a line is cut off a text that begins with it
 cut_first : (index : ℕ) (i : Instr) (r : List ℕ) → lines_in (line_of index i ++ r) ≡ line_of index i ∷ lines_in r

@@ -2,7 +2,6 @@
 use mathlib.Core.Path.{◌∙◌}
 use native.Mathlib.Omega.{arith}
 use Rattle.listing.proofs.Columns.{column_short, column_long}
-use borrow.Author.Rules.{rules}
 use Rattle.listing.proofs.line.column_length.Goals as goal
 
 pub returns-then-digits-lt-COLUMN : goal.returns-then-digits-lt-COLUMN

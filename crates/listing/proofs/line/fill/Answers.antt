@@ -1,10 +1,10 @@
 -- `line::fill` meets its contract. The loop's invariant: so many bytes of the text stand in the part.
 use mathlib.Core.Path.{refl, ap, ◌∙◌}
 use mathlib.Core.List.{List, ◌++◌, append-nil}
-use Prim.Native.Nat.{ℕ, ◌-◌, ◌≤◌}
+use Prim.Native.Nat.{ℕ, ◌≤◌}
 use native.Mathlib.Omega.{arith}
 use lib.ListN.{length, drop_of_length-le}
-use Rattle.numbers.proofs.Putting.{Put, put_length, put_more, put_all}
+use Rattle.numbers.proofs.Putting.{put_length, put_more, put_all}
 use Rattle.listing.proofs.line.fill.Goals as goal
 
 pub loop-i-init : goal.loop-i-init

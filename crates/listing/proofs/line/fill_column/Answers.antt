@@ -11,7 +11,6 @@ use Rattle.numbers.specs.Screen.{decimal}
 use Rattle.numbers.proofs.Scans.{rest_of}
 use Rattle.numbers.proofs.Decimals.{rest_filled}
 use Rattle.listing.proofs.Columns.{column_least, digits_within, blanks_first, column_filled}
-use borrow.Author.Rules.{rules}
 use Rattle.listing.proofs.line.fill_column.Goals as goal
 
 pub slice_bounds-fill-end : goal.slice_bounds-fill-end

@@ -6,7 +6,6 @@ use Rattle.numbers.specs.Screen.{decimal}
 use Rattle.numbers.proofs.Bits.{plain}
 use Rattle.numbers.proofs.Decimals.{decimal_most}
 use Rattle.listing.proofs.Columns.{column_most, line_length}
-use borrow.Author.Rules.{rules}
 use Rattle.listing.proofs.line.line_length.Goals as goal
 
 pub overflow_add-result : goal.overflow_add-result

@@ -12,7 +12,6 @@ use Rattle.numbers.proofs.Bits.{plain}
 use Rattle.numbers.proofs.Screens.{wrote_as}
 use Rattle.pcode.specs.Code.{ins, kind_of}
 use Rattle.listing.specs.Listing.{line_of}
-use borrow.Author.Rules.{rules}
 use Rattle.listing.proofs.line.put_line.Goals as goal
 
 pub returns-then-not-has_room : goal.returns-then-not-has_room

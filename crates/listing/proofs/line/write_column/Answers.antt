@@ -7,7 +7,6 @@ use lib.ListN.{length}
 use borrow.Rule.Slice.PartMut.{put_mid}
 use Rattle.numbers.proofs.Screens.{wrote_part}
 use Rattle.listing.specs.Listing.{right_aligned}
-use borrow.Author.Rules.{rules}
 use Rattle.listing.proofs.line.write_column.Goals as goal
 
 pub returns : goal.returns

@@ -9,7 +9,6 @@ use borrow.Rule.Slice.PartMut.{put_mid}
 use Rattle.numbers.specs.Screen.{decimal}
 use Rattle.numbers.proofs.Bits.{plain}
 use Rattle.numbers.proofs.Screens.{wrote_part}
-use borrow.Author.Rules.{rules}
 use Rattle.listing.proofs.line.write_decimal.Goals as goal
 
 pub overflow_add-end : goal.overflow_add-end

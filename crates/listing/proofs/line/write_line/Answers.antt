@@ -12,7 +12,6 @@ use Rattle.pcode.specs.Code.{kind_of}
 use Rattle.listing.specs.Listing.{letters}
 use Rattle.listing.specs.LineLaws.{letters_three}
 use Rattle.listing.proofs.Columns.{line_is, line_length, bar_room, kind_room, space_room, level_room, spaces_room, operand_room, end_room}
-use borrow.Author.Rules.{rules}
 use Rattle.listing.proofs.line.write_line.Goals as goal
 
 pub write_column-at-requires : goal.write_column-at-requires

@@ -5,7 +5,6 @@ use Prim.Native.Nat.{ℕ, ◌+◌, ◌-◌}
 use lib.ListN.{length}
 use borrow.Rule.Slice.PartMut.{put_mid}
 use Rattle.numbers.proofs.Screens.{wrote_part}
-use borrow.Author.Rules.{rules}
 use Rattle.listing.proofs.line.write_text.Goals as goal
 
 pub returns : goal.returns

@@ -1,6 +1,6 @@
 -- `lists::list` meets its contract. The loop's invariant: so many lines are written, and the definition goes on from there.
 use mathlib.Core.Path.{sym, ap}
-use Prim.Native.Nat.{◌-◌, ◌≤◌, ◌<◌}
+use Prim.Native.Nat.{◌<◌}
 use native.Mathlib.Omega.{arith}
 use borrow.Author.Rules.{rules}
 use lib.IntN.{pos}
@@ -13,7 +13,7 @@ use Rattle.pcode.specs.Code.{Instr, places_in, instrs_in}
 use Rattle.pcode.specs.PlaceLaws.{kinds_enough, levels_enough, operands_enough, length_instrs, instr_at}
 use Rattle.listing.specs.Listing.{line_of}
 use Rattle.listing.specs.Outcome.{list_outcome}
-use Rattle.listing.proofs.Standing.{Stands, stands_none, stands_more, stands_full, stands_all, too_many_lem}
+use Rattle.listing.proofs.Standing.{stands_none, stands_more, stands_full, stands_all, too_many_lem}
 use Rattle.listing.proofs.lists.list.Goals as goal
 
 pub returns-then-places-gt-MAX_CODE : goal.returns-then-places-gt-MAX_CODE
