@@ -13,7 +13,7 @@ use lib.Seq.{drop-cons}
 use borrow.Author.Tests.{le-leb, lt-leb, leb-true, leb-false}
 use Rattle.numbers.specs.Bytes.{is_digit, span, digits}
 use Rattle.numbers.specs.Limits.{greatest}
-use Rattle.lexer.specs.Tokens.{token, number_at}
+use Rattle.lexer.specs.Tokens.{number_at}
 use Rattle.lexer.specs.Meaning.{Shows}
 use Rattle.lexer.specs.Spelling.{greatest_before, above, with_digit, literal_of}
 use Rattle.lexer.specs.declared.token.Token.TheVariants.{Integer, TooBig}

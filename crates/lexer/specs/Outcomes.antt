@@ -1,5 +1,5 @@
 -- What the lexer promises settles its answers: two outcomes that meet a contract coincide.
-use Rattle.std.specs.Prelude.{◌≡◌, refl, Bool, true, false, List, ℕ, ◌+◌, ◌-◌, ◌≤◌, length, drop}
+use Rattle.std.specs.Prelude.{◌≡◌, refl, Bool, true, false, List, ℕ, ◌+◌, ◌≤◌, length, drop}
 use Rattle.std.proofs.Common.{sym, ◌∙◌, ap, arith, length-drop, length-take-le}
 use Rattle.lexer.specs.Tokens.{mark, name, number, token, bad, too_big, end_of_text, Lexed as Reading}
 use Rattle.lexer.specs.Cursor.{Cursor as Place}

@@ -1,5 +1,4 @@
 -- `next_token` meets its contract.
-use borrow.Author.Rules.{rules}
 use mathlib.Core.Path.{sym, ◌∙◌}
 use Rattle.lexer.proofs.Cases.{word_case, number_case, sign_case, end_case}
 use Rattle.lexer.proofs.next_token.Goals as goal

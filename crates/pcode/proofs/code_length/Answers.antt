@@ -1,7 +1,6 @@
 -- `pcode::code_length` meets its contract.
 use mathlib.Core.Path.{sym, ap, ◌∙◌}
 use Prim.Native.Nat.{min}
-use borrow.Author.Rules.{rules}
 use lib.ListN.{length}
 use Rattle.pcode.specs.PlaceLaws.{length_places}
 use Rattle.pcode.proofs.code_length.Goals as goal

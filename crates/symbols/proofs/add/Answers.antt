@@ -1,5 +1,4 @@
 -- The proof of `add`.
-use borrow.Author.Rules.{rules}
 use Rattle.symbols.proofs.Search.{asked}
 use Rattle.symbols.proofs.Adding.{add_made, add_full}
 use Rattle.symbols.proofs.add.Goals as goal

@@ -1,9 +1,7 @@
 -- The proof of `declared`.
-use borrow.Author.Rules.{rules}
 use native.Mathlib.Omega.{arith}
-use Rattle.symbols.specs.Table.{part}
 use Rattle.symbols.specs.Chains.{positive}
-use Rattle.symbols.proofs.Search.{asked, legible, Looked, look_start, look_end, look_hit, look_more}
+use Rattle.symbols.proofs.Search.{asked, legible, look_start, look_end, look_hit, look_more}
 use Rattle.symbols.proofs.declared.Goals as goal
 
 pub hash-h-requires : goal.hash-h-requires

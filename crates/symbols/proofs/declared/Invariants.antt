@@ -1,9 +1,6 @@
 -- The proof of `declared`.
-use borrow.Author.Rules.{rules}
-use native.Mathlib.Omega.{arith}
 use Rattle.symbols.specs.Table.{part}
-use Rattle.symbols.specs.Chains.{positive}
-use Rattle.symbols.proofs.Search.{asked, legible, Looked, look_start, look_end, look_hit, look_more}
+use Rattle.symbols.proofs.Search.{Looked}
 use Rattle.symbols.proofs.declared.Given as goal
 
 abbrev pub invariant-loop-k : goal.invariant-loop-k

@@ -1,5 +1,4 @@
 -- The proof of `enter`.
-use borrow.Author.Rules.{rules}
 use mathlib.Core.Path.{sym, ◌∙◌}
 use Rattle.symbols.proofs.Adding.{fresh_not, fresh_on}
 use Rattle.symbols.proofs.enter.Goals as goal

@@ -1,9 +1,7 @@
 -- The proof of `find`.
-use borrow.Author.Rules.{rules}
 use native.Mathlib.Omega.{arith}
-use Rattle.symbols.specs.Table.{part}
 use Rattle.symbols.specs.Chains.{positive}
-use Rattle.symbols.proofs.Search.{asked, legible, Searched, search_start, search_end, search_hit, search_more}
+use Rattle.symbols.proofs.Search.{asked, legible, search_start, search_end, search_hit, search_more}
 use Rattle.symbols.proofs.find.Goals as goal
 
 pub hash-h-requires : goal.hash-h-requires

@@ -1,8 +1,6 @@
 -- The proof of `first_row`.
-use native.Mathlib.Omega.{arith}
 use Rattle.symbols.specs.Table.{part}
-use Rattle.symbols.specs.Chains.{positive}
-use Rattle.symbols.proofs.Search.{legible, Unlike, first_start, first_end, first_hit, first_more}
+use Rattle.symbols.proofs.Search.{Unlike}
 use Rattle.symbols.proofs.first_row.Given as goal
 
 abbrev pub invariant-loop-k : goal.invariant-loop-k

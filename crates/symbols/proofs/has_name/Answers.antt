@@ -1,5 +1,4 @@
 -- The proof of `has_name`.
-use borrow.Author.Rules.{rules}
 use native.Mathlib.Omega.{arith}
 use Rattle.symbols.proofs.Search.{name_differs, name_compared}
 use Rattle.symbols.proofs.has_name.Goals as goal

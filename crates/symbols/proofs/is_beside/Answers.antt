@@ -1,5 +1,4 @@
 -- The proof of `is_beside`.
-use borrow.Author.Rules.{rules}
 use Rattle.symbols.proofs.Search.{beside_not, beside_is}
 use Rattle.symbols.proofs.is_beside.Goals as goal
 

@@ -1,5 +1,4 @@
 -- The proof of `is_seen`.
-use borrow.Author.Rules.{rules}
 use native.Mathlib.Omega.{arith}
 use Rattle.symbols.proofs.Search.{seen_not, seen_closed, seen_open}
 use Rattle.symbols.proofs.is_seen.Goals as goal

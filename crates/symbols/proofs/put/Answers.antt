@@ -1,5 +1,4 @@
 -- The proof of `put`.
-use borrow.Author.Rules.{rules}
 use native.Mathlib.Omega.{arith}
 use lib.ListN.{length-set}
 use Rattle.symbols.proofs.Adding.{twelve}

@@ -1,5 +1,4 @@
 -- The proof of `set_entry`.
-use borrow.Author.Rules.{rules}
 use native.Mathlib.Omega.{arith}
 use lib.ListN.{length-set}
 use Rattle.symbols.proofs.Adding.{entry_set}

@@ -1,5 +1,4 @@
 -- The proof of `close`.
-use borrow.Author.Rules.{rules}
 use native.Mathlib.Omega.{arith}
 use lib.ListN.{length-set}
 use Rattle.tree.proofs.close.Goals as goal

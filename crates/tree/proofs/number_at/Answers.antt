@@ -1,5 +1,4 @@
 -- The proof of `number_at`.
-use borrow.Author.Rules.{rules}
 use native.Mathlib.Omega.{arith}
 use Rattle.tree.proofs.number_at.Goals as goal
 

@@ -1,5 +1,4 @@
 -- The proof of `push`: four stores in a row.
-use borrow.Author.Rules.{rules}
 use native.Mathlib.Omega.{arith}
 use mathlib.Core.Path.{refl}
 use lib.ListN.{length-set}

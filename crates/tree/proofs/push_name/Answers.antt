@@ -1,5 +1,4 @@
 -- The proof of `push_name`.
-use borrow.Author.Rules.{rules}
 use Rattle.tree.specs.Layout.{enc}
 use Rattle.tree.proofs.push_name.Goals as goal
 

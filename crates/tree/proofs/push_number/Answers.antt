@@ -1,5 +1,4 @@
 -- The proof of `push_number`: a literal's two halves.
-use borrow.Author.Rules.{rules}
 use native.Mathlib.Omega.{arith}
 use Rattle.tree.specs.Layout.{enc}
 use Rattle.tree.proofs.Literals.{plain, below}

@@ -1,10 +1,7 @@
 -- `bytes::past_blanks` meets its contract.
-use borrow.Author.Rules.{rules}
-use mathlib.Core.Path.{◌≡◌, sym, ◌∙◌}
-use Prim.Native.Nat.{◌-◌}
-use lib.ListN.{length}
+use mathlib.Core.Path.{sym, ◌∙◌}
 use Rattle.numbers.specs.Bytes.{is_blank}
-use Rattle.lexer.proofs.Runs.{stop, run_more, run_stop, run_past}
+use Rattle.lexer.proofs.Runs.{run_more, run_stop, run_past}
 use Rattle.lexer.proofs.bytes.past_blanks.Goals as goal
 
 pub loop-i-preserved : goal.loop-i-preserved

@@ -1,10 +1,9 @@
 -- `bytes::past_word` meets its contract.
-use borrow.Author.Rules.{rules}
-use mathlib.Core.Path.{◌≡◌, sym, ◌∙◌}
+use mathlib.Core.Path.{◌≡◌}
 use Prim.Native.Nat.{◌-◌}
 use lib.ListN.{length}
 use Rattle.numbers.specs.Bytes.{is_word_byte}
-use Rattle.lexer.proofs.Runs.{stop, run_more, run_stop, run_past}
+use Rattle.lexer.proofs.Runs.{stop}
 use Rattle.lexer.proofs.bytes.past_word.Given as goal
 
 abbrev pub invariant-loop-i : goal.invariant-loop-i

@@ -1,7 +1,5 @@
 -- `cursor::beyond` meets its contract.
-use borrow.Author.Rules.{rules}
-use types.Run.{miss}
-use Rattle.lexer.proofs.Cases.{at_end, from, not_end}
+use Rattle.lexer.proofs.Cases.{at_end, not_end}
 use Rattle.lexer.proofs.cursor.beyond.Goals as goal
 
 pub returns-in-EndOfText : goal.returns-in-EndOfText

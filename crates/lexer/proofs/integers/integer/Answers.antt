@@ -1,12 +1,9 @@
 -- `integers::integer` meets its contract.
-use borrow.Author.Rules.{rules}
-use mathlib.Core.Path.{◌≡◌, refl, sym, ◌∙◌, ap}
-use Prim.Native.Nat.{◌-◌}
-use lib.ListN.{length}
+use mathlib.Core.Path.{refl, sym, ◌∙◌, ap}
 use Rattle.numbers.specs.Bytes.{is_digit}
 use Rattle.lexer.specs.Spelling.{literal_of}
-use Rattle.lexer.proofs.Runs.{stop, run_more, run_stop, run_past}
-use Rattle.lexer.proofs.Literals.{valued, digit_more, digit_stop, digit_past, literal_shows}
+use Rattle.lexer.proofs.Runs.{run_more, run_stop, run_past}
+use Rattle.lexer.proofs.Literals.{digit_more, digit_stop, digit_past, literal_shows}
 use Rattle.lexer.proofs.integers.integer.Goals as goal
 
 pub loop-e-init : goal.loop-e-init

@@ -1,7 +1,6 @@
 -- `integers::with_digit` meets its contract.
 use mathlib.Core.Path.{sym}
 use Rattle.lexer.proofs.Literals.{digit_least, digit_few, digit_many}
-use borrow.Author.Rules.{rules}
 use Rattle.lexer.proofs.integers.with_digit.Goals as goal
 
 pub overflow_sub-result : goal.overflow_sub-result

@@ -1,5 +1,4 @@
 -- `signs::sign` meets its contract.
-use borrow.Author.Rules.{rules}
 use Rattle.numbers.specs.Bytes.{bytes}
 use Rattle.lexer.specs.Marks.{pairs, spelt}
 use Rattle.lexer.specs.Spelling.{sign_of}

@@ -1,5 +1,4 @@
 -- `words::keyword` meets its contract.
-use borrow.Author.Rules.{rules}
 use mathlib.Core.Path.{sym, ◌∙◌}
 use Rattle.lexer.specs.Marks.{keywords}
 use Rattle.lexer.proofs.Tables.{named_sized, no_keyword}

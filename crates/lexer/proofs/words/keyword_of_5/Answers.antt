@@ -1,6 +1,5 @@
 -- `words::keyword_of_5` meets its contract.
 use mathlib.Core.Path.{sym, ◌∙◌}
-use borrow.Author.Rules.{rules}
 use Rattle.numbers.specs.Bytes.{bytes}
 use Rattle.lexer.specs.Marks.{keywords}
 use Rattle.lexer.specs.Spelling.{sized}

@@ -1,9 +1,6 @@
 -- `words::same` meets its contract.
 use borrow.Author.Rules.{rules}
-use mathlib.Core.Path.{◌≡◌, refl, sym, ◌∙◌}
-use Prim.Native.Nat.{◌≤◌, ◌-◌}
-use lib.ListN.{length, drop}
-use Rattle.numbers.specs.Bytes.{eq_list}
+use mathlib.Core.Path.{refl, sym, ◌∙◌}
 use Rattle.lexer.proofs.Tables.{other_length, same_more, same_stop, same_past}
 use Rattle.lexer.proofs.words.same.Goals as goal
 

@@ -1,10 +1,8 @@
 -- `words::same` meets its contract.
-use borrow.Author.Rules.{rules}
-use mathlib.Core.Path.{◌≡◌, refl, sym, ◌∙◌}
+use mathlib.Core.Path.{◌≡◌}
 use Prim.Native.Nat.{◌≤◌, ◌-◌}
 use lib.ListN.{length, drop}
 use Rattle.numbers.specs.Bytes.{eq_list}
-use Rattle.lexer.proofs.Tables.{other_length, same_more, same_stop, same_past}
 use Rattle.lexer.proofs.words.same.Given as goal
 
 abbrev pub invariant-loop-i : goal.invariant-loop-i

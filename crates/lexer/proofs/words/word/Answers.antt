@@ -1,5 +1,4 @@
 -- `words::word` meets its contract.
-use borrow.Author.Rules.{rules}
 use mathlib.Core.Path.{sym, ◌∙◌}
 use native.Mathlib.Omega.{arith}
 use Rattle.numbers.specs.Bytes.{is_word_byte}

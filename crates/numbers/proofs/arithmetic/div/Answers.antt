@@ -3,7 +3,6 @@ use mathlib.Core.Path.{◌≡◌, sym, ap, ◌∙◌}
 use mathlib.Core.Bool.{true}
 use Prim.Native.Nat.{◌<◌}
 use native.Mathlib.Omega.{arith as linear}
-use borrow.Author.Rules.{rules}
 use lib.IntN.{pos, negsuc}
 use lib.Signed.{quot_z}
 use mir.Syntax.{w64}

@@ -1,7 +1,6 @@
 -- `arithmetic::long_product` meets its contract: the product is within i64 exactly when the magnitudes' product is within the one that its sign allows.
 use mathlib.Core.Path.{◌≡◌, sym, ◌∙◌}
 use Prim.Native.Nat.{◌*◌}
-use borrow.Author.Rules.{rules}
 use lib.Dec.{leb}
 use lib.IntN.{nat_abs, ◌*ℤ◌}
 use mir.Syntax.{w64}

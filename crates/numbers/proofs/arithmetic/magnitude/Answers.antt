@@ -1,7 +1,6 @@
 -- `arithmetic::magnitude` meets its contract: -1 - x is the magnitude less one of a negative x.
 use mathlib.Core.Path.{◌≡◌}
 use native.Mathlib.Omega.{arith}
-use borrow.Author.Rules.{rules}
 use lib.IntN.{pos, negsuc, ◌-ℤ◌}
 use lib.Signed.{mag}
 use mir.Syntax.{w64}

@@ -1,7 +1,6 @@
 -- `arithmetic::mul` meets its contract: a product of two short numbers fits.
 use mathlib.Core.Path.{◌≡◌}
 use mathlib.Core.Bool.{true}
-use borrow.Author.Rules.{rules}
 use borrow.Author.Tests.{not-false}
 use lib.IntN.{◌*ℤ◌}
 use mir.Syntax.{w64}

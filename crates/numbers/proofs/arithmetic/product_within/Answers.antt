@@ -2,7 +2,6 @@
 use mathlib.Core.Path.{sym}
 use Prim.Native.Nat.{zero-le}
 use native.Mathlib.Nat.{zero-mul}
-use borrow.Author.Rules.{rules}
 use borrow.Author.Tests.{le-leb}
 use Rattle.numbers.proofs.Signs.{within_division}
 use Rattle.numbers.proofs.arithmetic.product_within.Goals as goal

@@ -1,6 +1,5 @@
 -- `bytes::is_word_byte` meets its contract.
 use mathlib.Core.Path.{sym, ◌∙◌}
-use borrow.Author.Rules.{rules}
 use Rattle.numbers.specs.Bytes.{is_word_byte}
 use Rattle.numbers.proofs.bytes.is_word_byte.Goals as goal
 

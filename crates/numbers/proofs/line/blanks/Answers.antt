@@ -1,11 +1,8 @@
 -- `line::blanks` meets its contract.
-use borrow.Author.Rules.{rules}
 use borrow.Author.Tests.{not-true, not-false}
-use mathlib.Core.Path.{◌≡◌, sym, ◌∙◌}
-use Prim.Native.Nat.{◌+◌, ◌-◌, ◌≤◌}
+use mathlib.Core.Path.{sym, ◌∙◌}
 use native.Mathlib.Omega.{arith}
-use lib.ListN.{length, drop}
-use Rattle.numbers.specs.Bytes.{is_blank, span}
+use Rattle.numbers.specs.Bytes.{is_blank}
 use Rattle.numbers.proofs.Scans.{span_end, span_stop, span_more}
 use Rattle.numbers.proofs.line.blanks.Goals as goal
 

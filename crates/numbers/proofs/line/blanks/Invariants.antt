@@ -1,12 +1,8 @@
 -- `line::blanks` meets its contract.
-use borrow.Author.Rules.{rules}
-use borrow.Author.Tests.{not-true, not-false}
-use mathlib.Core.Path.{◌≡◌, sym, ◌∙◌}
+use mathlib.Core.Path.{◌≡◌}
 use Prim.Native.Nat.{◌+◌, ◌-◌, ◌≤◌}
-use native.Mathlib.Omega.{arith}
 use lib.ListN.{length, drop}
 use Rattle.numbers.specs.Bytes.{is_blank, span}
-use Rattle.numbers.proofs.Scans.{span_end, span_stop, span_more}
 use Rattle.numbers.proofs.line.blanks.Given as goal
 
 abbrev pub invariant-loop-i : goal.invariant-loop-i

@@ -6,7 +6,6 @@ use lib.Seq.{length-take-le}
 use Rattle.numbers.specs.Bytes.{is_blank}
 use Rattle.numbers.specs.Line.{not_blank, field}
 use Rattle.numbers.proofs.Scans.{span_le, rest_of}
-use borrow.Author.Rules.{rules}
 use Rattle.numbers.proofs.line.field.Goals as goal
 
 pub slice_bounds-t-count : goal.slice_bounds-t-count

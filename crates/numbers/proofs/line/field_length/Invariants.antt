@@ -1,13 +1,9 @@
 -- `line::field_length` meets its contract.
-use borrow.Author.Rules.{rules}
-use mathlib.Core.Path.{◌≡◌, sym, ap, ◌∙◌}
-use mathlib.Core.Bool.{not}
+use mathlib.Core.Path.{◌≡◌}
 use Prim.Native.Nat.{◌+◌, ◌-◌, ◌≤◌}
-use native.Mathlib.Omega.{arith}
 use lib.ListN.{length, drop}
 use Rattle.numbers.specs.Bytes.{span}
 use Rattle.numbers.specs.Line.{not_blank}
-use Rattle.numbers.proofs.Scans.{span_end, span_stop, span_more}
 use Rattle.numbers.proofs.line.field_length.Given as goal
 
 abbrev pub invariant-loop-i : goal.invariant-loop-i

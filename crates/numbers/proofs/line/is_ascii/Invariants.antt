@@ -1,11 +1,8 @@
 -- `line::is_ascii` meets its contract.
-use mathlib.Core.Path.{◌≡◌, refl, sym, ◌∙◌}
+use mathlib.Core.Path.{◌≡◌}
 use Prim.Native.Nat.{◌-◌, ◌≤◌}
-use native.Mathlib.Omega.{arith}
-use borrow.Author.Tests.{lt-ltb, le-ltb}
 use lib.ListN.{length, drop}
 use Rattle.numbers.specs.Bytes.{is_ascii, every}
-use Rattle.numbers.proofs.Scans.{every_end, every_stop, every_more}
 use Rattle.numbers.proofs.line.is_ascii.Given as goal
 
 abbrev pub invariant-loop-i : goal.invariant-loop-i

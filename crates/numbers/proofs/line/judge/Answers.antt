@@ -3,7 +3,6 @@ use mathlib.Core.Path.{sym, ap, ◌∙◌}
 use borrow.Author.Tests.{not-true, not-false}
 use Rattle.numbers.specs.Line.{value_of}
 use Rattle.numbers.specs.Answers.{line_entry}
-use borrow.Author.Rules.{rules}
 use Rattle.numbers.proofs.line.judge.Goals as goal
 
 pub returns-then-not-is_ascii : goal.returns-then-not-is_ascii

@@ -4,7 +4,6 @@ use lib.ListN.{take}
 use lib.Seq.{length-take-le}
 use Rattle.numbers.specs.Line.{not_newline, line}
 use Rattle.numbers.proofs.Scans.{span_le}
-use borrow.Author.Rules.{rules}
 use Rattle.numbers.proofs.line.line.Goals as goal
 
 pub slice_bounds-result-end : goal.slice_bounds-result-end

@@ -1,13 +1,9 @@
 -- `line::line_length` meets its contract.
-use borrow.Author.Tests.{eq-eqb, ne_eqb}
-use mathlib.Core.Path.{◌≡◌, ap}
-use mathlib.Core.Bool.{not}
+use mathlib.Core.Path.{◌≡◌}
 use Prim.Native.Nat.{◌+◌, ◌-◌, ◌≤◌}
-use native.Mathlib.Omega.{arith}
 use lib.ListN.{length, drop}
 use Rattle.numbers.specs.Bytes.{span}
 use Rattle.numbers.specs.Line.{not_newline}
-use Rattle.numbers.proofs.Scans.{span_end, span_stop, span_more}
 use Rattle.numbers.proofs.line.line_length.Given as goal
 
 abbrev pub invariant-loop-i : goal.invariant-loop-i

@@ -13,7 +13,6 @@ use Rattle.numbers.specs.Answers.{magnitude_of}
 use Rattle.numbers.proofs.Signs.{negative_of}
 use Rattle.numbers.proofs.Bits.{less_one}
 use Rattle.numbers.proofs.Fields.{magnitude_most}
-use borrow.Author.Rules.{rules}
 use Rattle.numbers.proofs.line.negative.Goals as goal
 
 pub returns-in_default : goal.returns-in_default

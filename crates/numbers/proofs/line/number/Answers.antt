@@ -2,7 +2,6 @@
 use mathlib.Core.Path.{sym, ◌∙◌}
 use Rattle.numbers.proofs.Scans.{rest_of}
 use Rattle.numbers.proofs.Fields.{value_none, value_minus, value_plus, value_plain}
-use borrow.Author.Rules.{rules}
 use Rattle.numbers.proofs.line.number.Goals as goal
 
 pub returns-then-s-eq0 : goal.returns-then-s-eq0

@@ -8,7 +8,6 @@ use Rattle.numbers.specs.Limits.{greatest}
 use Rattle.numbers.specs.Line.{plus}
 use Rattle.numbers.specs.Answers.{magnitude_of}
 use Rattle.numbers.proofs.Fields.{magnitude_most}
-use borrow.Author.Rules.{rules}
 use Rattle.numbers.proofs.line.positive.Goals as goal
 
 pub returns-in_default : goal.returns-in_default

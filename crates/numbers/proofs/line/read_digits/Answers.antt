@@ -2,12 +2,11 @@
 use mathlib.Core.Path.{◌≡◌, refl, sym, ap, ◌∙◌}
 use mathlib.Core.Bool.{true}
 use mathlib.Core.Option.{some}
-use Prim.Native.Nat.{◌+◌, ◌-◌, ◌*◌, ◌≤◌}
+use Prim.Native.Nat.{◌+◌, ◌-◌, ◌*◌}
 use native.Mathlib.Omega.{arith}
-use borrow.Author.Rules.{rules}
 use borrow.Author.Tests.{not-true, not-false}
-use lib.ListN.{length, drop, get_or}
-use Rattle.numbers.specs.Bytes.{is_digit, every, digits}
+use lib.ListN.{drop, get_or}
+use Rattle.numbers.specs.Bytes.{is_digit, digits}
 use Rattle.numbers.proofs.Scans.{every_end, every_stop, every_more}
 use Rattle.numbers.proofs.Fields.{digits_end, digits_more, digits_ge, digit_low, digit_high, magnitude_empty, magnitude_other, magnitude_over, magnitude_some}
 use Rattle.numbers.proofs.line.read_digits.Goals as goal

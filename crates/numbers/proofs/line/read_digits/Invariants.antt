@@ -1,15 +1,8 @@
 -- `line::read_digits` meets its contract. The loop's invariant: the digits left, after the value so far, have the value of all of them.
-use mathlib.Core.Path.{◌≡◌, refl, sym, ap, ◌∙◌}
-use mathlib.Core.Bool.{true}
-use mathlib.Core.Option.{some}
-use Prim.Native.Nat.{◌+◌, ◌-◌, ◌*◌, ◌≤◌}
-use native.Mathlib.Omega.{arith}
-use borrow.Author.Rules.{rules}
-use borrow.Author.Tests.{not-true, not-false}
-use lib.ListN.{length, drop, get_or}
+use mathlib.Core.Path.{◌≡◌}
+use Prim.Native.Nat.{◌-◌, ◌≤◌}
+use lib.ListN.{length, drop}
 use Rattle.numbers.specs.Bytes.{is_digit, every, digits}
-use Rattle.numbers.proofs.Scans.{every_end, every_stop, every_more}
-use Rattle.numbers.proofs.Fields.{digits_end, digits_more, digits_ge, digit_low, digit_high, magnitude_empty, magnitude_other, magnitude_over, magnitude_some}
 use Rattle.numbers.proofs.line.read_digits.Given as goal
 
 abbrev pub invariant-loop-i : goal.invariant-loop-i

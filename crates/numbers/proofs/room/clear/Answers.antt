@@ -1,8 +1,6 @@
 -- `room::clear` meets its contract: one more zero a turn.
-use Prim.Native.Nat.{◌≤◌, ◌-◌}
 use native.Mathlib.Omega.{arith}
-use Rattle.numbers.specs.Lent.{filling}
-use Rattle.numbers.proofs.Putting.{Put, put_length, filling_none, filling_more, filling_all}
+use Rattle.numbers.proofs.Putting.{put_length, filling_none, filling_more, filling_all}
 use Rattle.numbers.proofs.room.clear.Goals as goal
 
 pub loop-k-init : goal.loop-k-init

@@ -1,9 +1,8 @@
 -- `room::clear_i64` meets its contract: one more zero a turn.
 use Prim.Native.Nat.{◌≤◌, ◌-◌}
-use native.Mathlib.Omega.{arith}
 use lib.IntN.{pos}
 use Rattle.numbers.specs.Lent.{filling}
-use Rattle.numbers.proofs.Putting.{Put, put_length, filling_none, filling_more, filling_all}
+use Rattle.numbers.proofs.Putting.{Put}
 use Rattle.numbers.proofs.room.clear_i64.Given as goal
 
 abbrev pub invariant-loop-k : goal.invariant-loop-k

@@ -5,7 +5,6 @@ use lib.IntN.{pos, nat_abs}
 use lib.ListN.{length}
 use Rattle.numbers.proofs.Bits.{plain, sign}
 use Rattle.numbers.proofs.Decimals.{decimal_most, decimal_plain, decimal_signed}
-use borrow.Author.Rules.{rules}
 use Rattle.numbers.proofs.screen.decimal_length.Goals as goal
 
 pub overflow_add-result : goal.overflow_add-result

@@ -1,10 +1,6 @@
 -- `screen::digit_count` meets its contract. The loop's invariant: the digits counted and those of what is left are as many as the number has.
-use mathlib.Core.Path.{◌≡◌}
-use Prim.Native.Nat.{◌+◌, ◌≤◌}
 use native.Mathlib.Omega.{arith}
 use lib.IntN.{pos}
-use lib.ListN.{length}
-use Rattle.numbers.specs.Screen.{decimal}
 use Rattle.numbers.proofs.Decimals.{four_more, so_many, decimal_most}
 use Rattle.numbers.proofs.screen.digit_count.Goals as goal
 

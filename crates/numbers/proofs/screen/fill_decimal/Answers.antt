@@ -12,7 +12,6 @@ use Rattle.numbers.specs.Screen.{decimal}
 use Rattle.numbers.proofs.Scans.{rest_of}
 use Rattle.numbers.proofs.Bits.{back, plain}
 use Rattle.numbers.proofs.Decimals.{rest_filled}
-use borrow.Author.Rules.{rules}
 use Rattle.numbers.proofs.screen.fill_decimal.Goals as goal
 
 pub fill_digits-requires : goal.fill_digits-requires

@@ -1,12 +1,10 @@
 -- `screen::fill_digits` meets its contract. The loop's invariant: the digits that are left, in front of those written, are the digits of the number.
-use mathlib.Core.Path.{◌≡◌, refl, ◌∙◌}
+use mathlib.Core.Path.{◌≡◌}
 use Prim.Native.Nat.{◌≤◌}
-use native.Mathlib.Omega.{arith}
 use lib.IntN.{pos}
-use lib.ListN.{length, drop, length-set}
+use lib.ListN.{length, drop}
 use Rattle.numbers.specs.Screen.{decimal}
-use Rattle.numbers.proofs.Decimals.{last_digits_of, digits_begin, digit_more, pair_more}
-use borrow.Author.Rules.{rules}
+use Rattle.numbers.proofs.Decimals.{last_digits_of}
 use Rattle.numbers.proofs.screen.fill_digits.Given as goal
 
 abbrev pub invariant-loop-left : goal.invariant-loop-left

@@ -8,7 +8,6 @@ use lib.ListN.{length, length-set}
 use Rattle.numbers.specs.Screen.{decimal}
 use Rattle.numbers.proofs.Bits.{sign}
 use Rattle.numbers.proofs.Decimals.{decimal_plain, decimal_signed, sign_put}
-use borrow.Author.Rules.{rules}
 use Rattle.numbers.proofs.screen.fill_sign.Goals as goal
 
 pub bounds-part-0 : goal.bounds-part-0

@@ -1,13 +1,12 @@
 -- `screen::put_bytes` meets its contract. The loop's invariant: so many bytes stand where they belong, and the rest is as it was.
 use mathlib.Core.Path.{◌≡◌, refl, sym, ap, ◌∙◌}
-use Prim.Native.Nat.{ℕ, ◌+◌, ◌-◌, ◌≤◌}
+use Prim.Native.Nat.{ℕ, ◌+◌}
 use native.Mathlib.Omega.{arith}
 use borrow.Author.Tests.{leb-true, not-true, not-false}
 use lib.ListN.{length}
-use lib.Seq.{paste, paste-zero, paste-suc, length-paste}
+use lib.Seq.{paste-zero, paste-suc, length-paste}
 use native.Mathlib.Numerals.{add-one}
 use Rattle.numbers.proofs.Screens.{pasted}
-use borrow.Author.Rules.{rules}
 use Rattle.numbers.proofs.screen.put_bytes.Goals as goal
 
 pub returns-then-not-has_room : goal.returns-then-not-has_room

@@ -12,7 +12,6 @@ use Rattle.numbers.specs.Screen.{decimal, written}
 use Rattle.numbers.proofs.Bits.{plain}
 use Rattle.numbers.proofs.Decimals.{decimal_most}
 use Rattle.numbers.proofs.Screens.{wrote_part, put_behind, written_room}
-use borrow.Author.Rules.{rules}
 use Rattle.numbers.proofs.screen.put_number.Goals as goal
 
 pub overflow_add-count : goal.overflow_add-count

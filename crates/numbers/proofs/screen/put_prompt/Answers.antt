@@ -1,7 +1,6 @@
 -- `screen::put_prompt` meets its contract.
 use Rattle.numbers.specs.Bytes.{bytes}
 use Rattle.numbers.specs.Screen.{prompt}
-use borrow.Author.Rules.{rules}
 use Rattle.numbers.proofs.screen.put_prompt.Goals as goal
 
 pub returns : goal.returns

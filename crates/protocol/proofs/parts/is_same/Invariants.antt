@@ -1,7 +1,6 @@
 -- `parts::is_same` is safe and ends.
 use mathlib.Core.Path.{◌≡◌}
 use Prim.Native.Nat.{◌-◌, ◌≤◌}
-use native.Mathlib.Omega.{arith}
 use lib.ListN.{length}
 use Rattle.protocol.proofs.parts.is_same.Given as goal
 

@@ -1,7 +1,6 @@
 -- `parts::part` is safe.
 use mathlib.Core.Path.{sym}
 use lib.Seq.{length-take-le}
-use borrow.Author.Rules.{rules}
 use Rattle.protocol.proofs.parts.part.Goals as goal
 
 pub slice_bounds-result-end : goal.slice_bounds-result-end

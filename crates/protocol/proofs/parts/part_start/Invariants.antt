@@ -1,6 +1,5 @@
 -- `parts::part_start` meets its contract.
 use Prim.Native.Nat.{◌-◌, ◌≤◌}
-use native.Mathlib.Omega.{arith}
 use lib.ListN.{length}
 use Rattle.protocol.proofs.parts.part_start.Given as goal
 

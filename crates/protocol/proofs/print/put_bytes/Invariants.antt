@@ -1,6 +1,5 @@
 -- `print::put_bytes` meets its contract.
 use mathlib.Core.Path.{◌≡◌}
-use borrow.Author.Rules.{rules}
 use Prim.Native.Nat.{◌-◌, ◌≤◌}
 use lib.ListN.{length}
 use Rattle.protocol.proofs.print.put_bytes.Given as goal

@@ -1,7 +1,6 @@
 -- `print::put_number` meets its contract: what was written ends in two spaces.
 use Prim.Native.Nat.{◌+◌}
 use native.Mathlib.Omega.{arith}
-use borrow.Author.Rules.{rules}
 use borrow.Author.Tests.{leb-true}
 use lib.ListN.{length, length-append}
 use mir.Syntax.{w64}

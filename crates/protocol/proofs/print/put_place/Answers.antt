@@ -1,7 +1,6 @@
 -- `print::put_place` meets its contract.
 use mir.Syntax.{w8}
 use mir.Facts.{sfits_widen, sfits_to_z, Fits-of_z}
-use borrow.Author.Rules.{rules}
 use Rattle.protocol.proofs.print.put_place.Goals as goal
 
 pub overflow_cast-kind : goal.overflow_cast-kind

@@ -1,6 +1,5 @@
 -- `print::significant` meets its contract.
 use Prim.Native.Nat.{◌≤◌}
-use native.Mathlib.Omega.{arith}
 use lib.ListN.{length}
 use Rattle.protocol.proofs.print.significant.Given as goal
 

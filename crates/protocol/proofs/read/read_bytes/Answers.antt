@@ -1,9 +1,6 @@
 -- `read::read_bytes` meets its contract.
-use mathlib.Core.Path.{◌≡◌}
-use Prim.Native.Nat.{◌*◌, ◌-◌, ◌≤◌}
 use native.Mathlib.Omega.{arith}
-use borrow.Author.Rules.{rules}
-use lib.ListN.{length, length-set}
+use lib.ListN.{length-set}
 use Rattle.protocol.proofs.read.read_bytes.Goals as goal
 
 pub overflow_mul-into : goal.overflow_mul-into

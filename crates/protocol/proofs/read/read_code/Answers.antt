@@ -1,9 +1,7 @@
 -- `read::read_code` meets its contract.
-use mathlib.Core.Path.{◌≡◌, sym}
-use Prim.Native.Nat.{◌-◌, ◌≤◌}
+use mathlib.Core.Path.{sym}
 use native.Mathlib.Omega.{arith}
-use borrow.Author.Rules.{rules}
-use lib.ListN.{length, length-drop, length-set}
+use lib.ListN.{length-drop, length-set}
 use lib.Seq.{length-take-le}
 use Rattle.numbers.proofs.Scans.{rest_of}
 use Rattle.protocol.proofs.read.read_code.Goals as goal

@@ -1,11 +1,7 @@
 -- `read::read_code` meets its contract.
-use mathlib.Core.Path.{◌≡◌, sym}
+use mathlib.Core.Path.{◌≡◌}
 use Prim.Native.Nat.{◌-◌, ◌≤◌}
-use native.Mathlib.Omega.{arith}
-use borrow.Author.Rules.{rules}
-use lib.ListN.{length, length-drop, length-set}
-use lib.Seq.{length-take-le}
-use Rattle.numbers.proofs.Scans.{rest_of}
+use lib.ListN.{length}
 use Rattle.protocol.proofs.read.read_code.Given as goal
 
 abbrev pub invariant-loop-at : goal.invariant-loop-at

@@ -1,7 +1,6 @@
 -- `read::read_place` is safe and ends: a level within 16 bits was asked for.
 use Prim.Native.Nat.{◌≤◌}
 use native.Mathlib.Omega.{arith}
-use borrow.Author.Rules.{rules}
 use Rattle.protocol.proofs.read.read_place.Goals as goal
 
 pub overflow_cast-result : goal.overflow_cast-result

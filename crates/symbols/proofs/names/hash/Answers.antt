@@ -1,8 +1,8 @@
 -- The proof of `hash`.
 use native.Mathlib.Omega.{arith}
 use native.Mathlib.Nat.{mod-lt}
-use Prim.Native.Nat.{◌≤◌, ◌<◌, ◌-◌, ◌+◌}
-use Rattle.symbols.proofs.Spelling.{Hashed, hash_start, hash_more, hash_end}
+use Prim.Native.Nat.{◌+◌}
+use Rattle.symbols.proofs.Spelling.{hash_start, hash_more, hash_end}
 use Rattle.symbols.proofs.names.hash.Goals as goal
 
 pub loop-k-init : goal.loop-k-init

@@ -1,8 +1,6 @@
 -- The proof of `hash`.
-use native.Mathlib.Omega.{arith}
-use native.Mathlib.Nat.{mod-lt}
-use Prim.Native.Nat.{◌≤◌, ◌<◌, ◌-◌, ◌+◌}
-use Rattle.symbols.proofs.Spelling.{Hashed, hash_start, hash_more, hash_end}
+use Prim.Native.Nat.{◌≤◌, ◌<◌, ◌-◌}
+use Rattle.symbols.proofs.Spelling.{Hashed}
 use Rattle.symbols.proofs.names.hash.Given as goal
 
 abbrev pub invariant-loop-k : goal.invariant-loop-k

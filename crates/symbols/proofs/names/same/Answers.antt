@@ -1,8 +1,7 @@
 -- The proof of `same`.
 use native.Mathlib.Omega.{arith}
 use mathlib.Core.Path.{sym}
-use Prim.Native.Nat.{◌≤◌, ◌-◌}
-use Rattle.symbols.proofs.Spelling.{Same, other_length, same_start, same_more, same_not, same_end}
+use Rattle.symbols.proofs.Spelling.{other_length, same_start, same_more, same_not, same_end}
 use Rattle.symbols.proofs.names.same.Goals as goal
 
 pub returns-then-n-m : goal.returns-then-n-m

@@ -1,7 +1,5 @@
 -- The proof of `clear`.
 use native.Mathlib.Omega.{arith}
-use Prim.Native.Nat.{◌≤◌, ◌-◌}
-use Rattle.symbols.specs.Steps.{Cleared}
 use Rattle.symbols.proofs.Seeing.{plain_length, clear_start, clear_more, clear_end}
 use Rattle.symbols.proofs.scopes.clear.Goals as goal
 

@@ -1,5 +1,4 @@
 -- The proof of `is_open`.
-use borrow.Author.Rules.{rules}
 use Rattle.symbols.proofs.Seeing.{open_zero, open_is}
 use Rattle.symbols.proofs.scopes.is_open.Goals as goal
 

@@ -1,8 +1,7 @@
 -- The proof of `mark`.
-use borrow.Author.Rules.{rules}
 use native.Mathlib.Omega.{arith}
 use lib.ListN.{length-set}
-use Rattle.symbols.proofs.Seeing.{plain_length, Marking, mark_start, mark_lies, mark_small, mark_first, mark_less, mark_more, mark_end}
+use Rattle.symbols.proofs.Seeing.{plain_length, mark_start, mark_lies, mark_small, mark_first, mark_less, mark_more, mark_end}
 use Rattle.symbols.proofs.scopes.mark.Goals as goal
 
 pub loop-p-init : goal.loop-p-init

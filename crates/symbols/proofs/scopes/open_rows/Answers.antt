@@ -1,8 +1,6 @@
 -- The proof of `open_rows`.
 use native.Mathlib.Omega.{arith}
-use Prim.Native.Nat.{◌≤◌, ◌-◌}
-use Rattle.symbols.proofs.Seeing.{plain_length, Opening, open_start, open_linked, open_lies, open_more, open_skip, open_end}
-use mathlib.Core.Logic.{⊎_elim}
+use Rattle.symbols.proofs.Seeing.{plain_length, open_start, open_linked, open_lies, open_more, open_skip, open_end}
 use Rattle.symbols.proofs.scopes.open_rows.Goals as goal
 use Rattle.symbols.proofs.scopes.open_rows.Goals.{then-opens, else-opens}
 

@@ -1,5 +1,4 @@
 -- The proof of `opens`.
-use borrow.Author.Rules.{rules}
 use native.Mathlib.Omega.{arith}
 use mathlib.Core.Path.{◌∙◌}
 use Rattle.symbols.proofs.Seeing.{opens_not, opens_if}

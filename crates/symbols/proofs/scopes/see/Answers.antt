@@ -1,5 +1,4 @@
 -- The proof of `see`.
-use borrow.Author.Rules.{rules}
 use native.Mathlib.Omega.{arith}
 use Rattle.symbols.proofs.Seeing.{look_linked, look_marked, look_unopened, look_plain, look_seen, look_became}
 use Rattle.symbols.proofs.scopes.see.Goals as goal

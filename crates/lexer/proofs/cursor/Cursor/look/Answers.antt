@@ -1,5 +1,4 @@
 -- `cursor::Cursor::look` meets its contract.
-use borrow.Author.Rules.{rules}
 use Rattle.lexer.proofs.Cases.{look_again, look_few, look_many}
 use Rattle.lexer.proofs.cursor.Cursor.look.Goals as goal
 
