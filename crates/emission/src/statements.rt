@@ -4,6 +4,7 @@ ghost use Rattle.lexer.specs.Tokens.{Name};
 ghost use Rattle.tree.specs.Tree.{Exp, Cond, Stmt, call};
 ghost use Rattle.tree.specs.Layout.{assign_kind, if_kind, while_kind, call_kind, body_kind, read_kind, write_kind, node_no};
 ghost use Rattle.tree.specs.Standing.{NameAt, HasName, StmtAt, HasStmt, GuardAt, HasGuard};
+ghost use Rattle.pcode.specs.Code;
 ghost use Rattle.pcode.specs.Operators.{read};
 ghost use Rattle.pcode.specs.Code;
 ghost use Rattle.emission.specs.Pieces.{◌⨾◌, emit_oper, jump_over};

@@ -1,0 +1,55 @@
+-- The proof of `args`.
+use native.Mathlib.Omega.{arith}
+use mathlib.Core.Path.{refl, ◌∙◌}
+use Rattle.emission.specs.Drafting.{stops}
+use Rattle.emission.proofs.Lists.{loop_head, loop_stop, loop_more, loop_done}
+use Rattle.emission.proofs.Stmts.{call_in, the_call, args_start, args_empty}
+use Rattle.emission.proofs.statements.args.Goals as goal
+
+pub overflow_add-i : goal.overflow_add-i
+overflow_add-i c = omega (arith, (call_in c.requires.i_value c.requires.has_stmt).1, c.well_formed)
+
+pub number_at-count-requires : goal.number_at-count-requires
+number_at-count-requires c = omega (arith, (call_in c.requires.i_value c.requires.has_stmt).1, c.well_formed)
+
+pub overflow_add-j : goal.overflow_add-j
+overflow_add-j c = omega (arith, (call_in c.requires.i_value c.requires.has_stmt).1, c.well_formed)
+
+pub loop-k-init : goal.loop-k-init
+loop-k-init c = (refl, args_start _ _ _ _ _ _ _ c.number_at-count.ensures c.requires.ready.most)
+
+pub exp-r-requires : goal.exp-r-requires
+exp-r-requires c =
+    let w = the_call c.requires.i_value c.requires.has_stmt in
+    let d = loop_head _ _ _ _ _ _ _ _ _ c.loop-k.invariant.1 c.loop-k-test.true w.0 w.1 in
+    record {
+      ready = record { known = c.requires.ready.known; room = omega (arith, c.requires.ready.room, c.loop-k.invariant.0); most = d.most };
+      has_exp = record { exp = d.head; at = d.at };
+    }
+
+pub shape_of-draft-in_default : goal.shape_of-draft-in_default
+shape_of-draft-in_default c = c.exp-r.auto.draft ∙ c.loop-k.invariant.0
+
+pub returns-in_default : goal.returns-in_default
+returns-in_default c = λ f es a. loop_stop _ _ _ _ _ _ _ _ _ c.loop-k.invariant.1 c.loop-k-test.true c.exp-r.ensures _ (stops c.in_default.is) (f, es) a
+
+pub after-j-requires : goal.after-j-requires
+after-j-requires c =
+    let w = the_call c.requires.i_value c.requires.has_stmt in
+    let d = loop_head _ _ _ _ _ _ _ _ _ c.loop-k.invariant.1 c.loop-k-test.true w.0 w.1 in
+    (_, d.stands)
+
+pub overflow_add-k : goal.overflow_add-k
+overflow_add-k c = omega (arith, c.loop-k-test.true, c.number_at-count.type_inv)
+
+pub loop-k-smaller : goal.loop-k-smaller
+loop-k-smaller c = omega (arith, c.loop-k-test.true)
+
+pub loop-k-preserved : goal.loop-k-preserved
+loop-k-preserved c = (c.exp-r.auto.draft ∙ c.loop-k.invariant.0, loop_more _ _ _ _ _ _ _ _ _ c.loop-k.invariant.1 c.loop-k-test.true c.exp-r.ensures c.in-At.is c.after-j.ensures)
+
+pub shape_of-draft : goal.shape_of-draft
+shape_of-draft c = c.loop-k.invariant.0
+
+pub returns : goal.returns
+returns c = λ f es a. loop_done _ _ _ _ _ _ _ _ _ c.loop-k.invariant.1 (args_empty c.args.text.now c.args.tree.now _) c.loop-k-test.false (f, es) a

@@ -1,0 +1,54 @@
+-- The proof of `read`.
+use native.Mathlib.Omega.{arith}
+use mathlib.Core.Path.{refl, ◌∙◌}
+use Rattle.tree.specs.Parts.{stmt_fits}
+use Rattle.emission.specs.Drafting.{stops}
+use Rattle.emission.proofs.Lists.{loop_head, loop_stop, loop_more, loop_done}
+use Rattle.emission.proofs.Stmts.{reads_start, reads_empty}
+use Rattle.emission.proofs.statements.read.Goals as goal
+
+pub overflow_add-i : goal.overflow_add-i
+overflow_add-i c = omega (arith, stmt_fits c.requires.has_stmt.at, c.well_formed)
+
+pub number_at-count-requires : goal.number_at-count-requires
+number_at-count-requires c = omega (arith, stmt_fits c.requires.has_stmt.at, c.well_formed)
+
+pub overflow_add-j : goal.overflow_add-j
+overflow_add-j c = omega (arith, stmt_fits c.requires.has_stmt.at, c.well_formed)
+
+pub loop-k-init : goal.loop-k-init
+loop-k-init c = (refl, reads_start _ _ _ _ _ _ _ c.requires.i_value c.number_at-count.ensures c.requires.ready.most)
+
+pub read_one-r-requires : goal.read_one-r-requires
+read_one-r-requires c =
+    let d = loop_head _ _ _ _ _ _ _ _ _ c.loop-k.invariant.1 c.loop-k-test.true c.requires.has_stmt.stmt c.requires.has_stmt.at in
+    record {
+      ready = record { known = c.requires.ready.known; room = omega (arith, c.requires.ready.room, c.loop-k.invariant.0); most = d.most };
+      has_name = record { name = d.head; at = d.at };
+    }
+
+pub shape_of-draft-in_default : goal.shape_of-draft-in_default
+shape_of-draft-in_default c = c.read_one-r.auto.draft ∙ c.loop-k.invariant.0
+
+pub returns-in_default : goal.returns-in_default
+returns-in_default c = loop_stop _ _ _ _ _ _ _ _ _ c.loop-k.invariant.1 c.loop-k-test.true c.read_one-r.ensures _ (stops c.in_default.is)
+
+pub after-j-requires : goal.after-j-requires
+after-j-requires c =
+    let d = loop_head _ _ _ _ _ _ _ _ _ c.loop-k.invariant.1 c.loop-k-test.true c.requires.has_stmt.stmt c.requires.has_stmt.at in
+    (_, d.stands)
+
+pub overflow_add-k : goal.overflow_add-k
+overflow_add-k c = omega (arith, c.loop-k-test.true, c.number_at-count.type_inv)
+
+pub loop-k-smaller : goal.loop-k-smaller
+loop-k-smaller c = omega (arith, c.loop-k-test.true)
+
+pub loop-k-preserved : goal.loop-k-preserved
+loop-k-preserved c = (c.read_one-r.auto.draft ∙ c.loop-k.invariant.0, loop_more _ _ _ _ _ _ _ _ _ c.loop-k.invariant.1 c.loop-k-test.true c.read_one-r.ensures c.in-At.is c.after-j.ensures)
+
+pub shape_of-draft : goal.shape_of-draft
+shape_of-draft c = c.loop-k.invariant.0
+
+pub returns : goal.returns
+returns c = loop_done _ _ _ _ _ _ _ _ _ c.loop-k.invariant.1 (reads_empty c.args.text.now c.args.tree.now _) c.loop-k-test.false
