@@ -8,9 +8,8 @@ use std::{fs, io};
 // What reading gives: so many bytes in the room; or a call failed, for that reason.
 #[derive(Clone, Copy)]
 pub struct Got {
-    pub is_failed: bool,
     pub bytes: usize,
-    pub reason: Option<io::Error>,
+    pub failure: Option<io::Error>,
 }
 
 impl Got {
@@ -19,9 +18,8 @@ impl Got {
         ensures { result.bytes ≤ bytes }
     {
         Got {
-            is_failed: false,
             bytes,
-            reason: None,
+            failure: None,
         }
     }
 
@@ -30,9 +28,8 @@ impl Got {
         ensures { result.bytes ≤ bytes }
     {
         Got {
-            is_failed: true,
             bytes,
-            reason: Some(reason),
+            failure: Some(reason),
         }
     }
 }
@@ -57,7 +54,7 @@ fn read_to_end<R: Read>(from: &mut R, room: &mut [u8]) -> Got
     let mut used = 0;
     while used < room.len() {
         let got = read_more(from, room, used);
-        if let Some(reason) = got.reason {
+        if let Some(reason) = got.failure {
             return Got::failed(used, reason);
         }
         let more = got.bytes;
