@@ -45,6 +45,7 @@ fn agree(ran: Ended, walked: Ended, out: &[u8], other: &[u8]) -> bool {
 
 // Walks a sheet that was run, with the same entries, says whether the two agree, and gives the status.
 fn compare(
+    rt: &HostRuntime,
     budget: u32,
     name: &[u8],
     text: &[u8],
@@ -57,38 +58,39 @@ fn compare(
     let n = clip(used, entries);
     let walked = walk_once(text, &entries[..n], budget, &mut other);
     if walked.number == PROCEDURE_IN_TREE {
-        return say::refusal(name, walked.number);
+        return say::refusal(rt, name, walked.number);
     }
     if agree(ran, walked, out, &other) {
-        say::of_sheet(name, b": run and walk agree\n");
+        say::of_sheet(rt, name, b": run and walk agree\n");
         return 0;
     }
-    say::of_sheet(name, b": run and walk differ\n");
+    say::of_sheet(rt, name, b": run and walk differ\n");
     UNUSABLE
 }
 
 // What is said of an answer, and the status.
-fn tell(asked: Asked, name: &[u8], ended: Ended) -> u8 {
+fn tell(rt: &HostRuntime, asked: Asked, name: &[u8], ended: Ended) -> u8 {
     if asked.steps {
-        say::counts(name, ended.lines, ended.steps);
+        say::counts(rt, name, ended.lines, ended.steps);
     }
     if ended.number == 0 {
         return 0;
     }
-    say::refusal(name, ended.number)
+    say::refusal(rt, name, ended.number)
 }
 
 // What is said where there is no answer, and the status.
-fn stuck(stage: Stage) -> u8 {
+fn stuck(rt: &HostRuntime, stage: Stage) -> u8 {
     match stage {
-        Stage::Unwritten => say::failed(b"loopgarret: standard output"),
-        Stage::Unread => say::failed(b"loopgarret: standard input"),
-        _ => say::complain(b"loopgarret: more than 65536 bytes of entries\n"),
+        Stage::Unwritten(reason) => say::unwritten(rt, reason),
+        Stage::Unread(reason) => say::failed(rt, b"loopgarret: standard input", reason),
+        _ => say::complain(rt, b"loopgarret: more than 65536 bytes of entries\n"),
     }
 }
 
 // The end of a session.
 fn finish(
+    rt: &HostRuntime,
     way: Way,
     asked: Asked,
     name: &[u8],
@@ -100,13 +102,13 @@ fn finish(
     let stage = last.stage;
     let ended = last.ended;
     let Stage::Done = stage else {
-        return stuck(stage);
+        return stuck(rt, stage);
     };
-    let told = tell(asked, name, ended);
+    let told = tell(rt, asked, name, ended);
     let Way::Both = way else {
         return told;
     };
-    let compared = compare(asked.budget, name, text, entries, last.used, ended, out);
+    let compared = compare(rt, asked.budget, name, text, entries, last.used, ended, out);
     if compared != 0 {
         return compared;
     }
@@ -115,6 +117,7 @@ fn finish(
 
 // Runs or walks the sheet.
 pub fn play(
+    rt: &HostRuntime,
     way: Way,
     asked: Asked,
     name: &[u8],
@@ -126,6 +129,7 @@ pub fn play(
     let mut entries = io::large_buffer();
     let mut out = io::large_buffer();
     let last = session(
+        rt,
         is_walk(way),
         asked.budget,
         text,
@@ -135,7 +139,7 @@ pub fn play(
         &mut entries,
         &mut out,
     );
-    finish(way, asked, name, text, last, &entries, &out)
+    finish(rt, way, asked, name, text, last, &entries, &out)
 }
 
 fn is_walk(way: Way) -> bool {

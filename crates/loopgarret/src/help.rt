@@ -3,8 +3,9 @@ use crate::say::{answer, complain};
 use desk::words::Command;
 
 // All commands.
-pub fn all() -> u8 {
+pub fn all(rt: &HostRuntime) -> u8 {
     answer(
+        rt,
         b"\
 loopgarret: compiles and runs rule sheets in PL/0
 
@@ -26,27 +27,29 @@ Status: 0 done, 1 a refused sheet, 2 a refused run, 3 bad usage or an unreadable
 }
 
 // No word at all.
-pub fn wanted() -> u8 {
+pub fn wanted(rt: &HostRuntime) -> u8 {
     complain(
+        rt,
         b"loopgarret: a command is wanted: run, walk, both, check, compile or numbers.\nTry `loopgarret --help`.\n",
     )
 }
 
 // The page of a command.
-pub fn of(command: Command) -> u8 {
+pub fn of(rt: &HostRuntime, command: Command) -> u8 {
     match command {
-        Command::Run => run(),
-        Command::Walk => walk(),
-        Command::Both => both(),
-        Command::Check => check(),
-        Command::Compile => compile(),
-        Command::Numbers => numbers(),
-        _ => all(),
+        Command::Run => run(rt),
+        Command::Walk => walk(rt),
+        Command::Both => both(rt),
+        Command::Check => check(rt),
+        Command::Compile => compile(rt),
+        Command::Numbers => numbers(rt),
+        _ => all(rt),
     }
 }
 
-fn run() -> u8 {
+fn run(rt: &HostRuntime) -> u8 {
     answer(
+        rt,
         b"\
 loopgarret run [--budget N] [--steps] SHEET
 
@@ -60,8 +63,9 @@ Status: 0 done, 1 the sheet is refused, 2 the run is refused, 3 bad usage or an 
     )
 }
 
-fn walk() -> u8 {
+fn walk(rt: &HostRuntime) -> u8 {
     answer(
+        rt,
         b"\
 loopgarret walk [--budget N] [--steps] SHEET
 
@@ -71,8 +75,9 @@ alike. A sheet with a procedure is refused with 25.
     )
 }
 
-fn both() -> u8 {
+fn both(rt: &HostRuntime) -> u8 {
     answer(
+        rt,
         b"\
 loopgarret both [--budget N] [--steps] SHEET
 
@@ -82,8 +87,9 @@ agree: in number, lines taken, steps and every byte written.
     )
 }
 
-fn check() -> u8 {
+fn check(rt: &HostRuntime) -> u8 {
     answer(
+        rt,
         b"\
 loopgarret check SHEET
 
@@ -93,8 +99,9 @@ then 1.
     )
 }
 
-fn compile() -> u8 {
+fn compile(rt: &HostRuntime) -> u8 {
     answer(
+        rt,
         b"\
 loopgarret compile SHEET
 
@@ -103,8 +110,9 @@ Prints the sheet's instructions, a line each: index, kind, level and operand.
     )
 }
 
-fn numbers() -> u8 {
+fn numbers(rt: &HostRuntime) -> u8 {
     answer(
+        rt,
         b"\
 loopgarret numbers
 

@@ -9,11 +9,12 @@
 ghost use Rattle.io.specs.Counts.{IsPrefixLen};
 
 use crate::calls::once;
+use crate::say::{complain, written};
 use desk::entries::{wants_line, whole_lines};
 use desk::files::read_more;
 use desk::page::{clip, least};
-use libc::{STDERR_FILENO, STDIN_FILENO, STDOUT_FILENO};
 use machine::Ended;
+use std::io::{Error, IsTerminal, Result};
 
 // Bytes of output, as those of entries: io::large_buffer has them.
 const OUTPUT_ROOM: usize = 65536;
@@ -33,9 +34,9 @@ pub enum Stage {
     // the answer is there
     Done,
     // standard output cannot be written
-    Unwritten,
+    Unwritten(Error),
     // standard input cannot be read
-    Unread,
+    Unread(Error),
     // the entries do not fit their room
     Full,
 }
@@ -61,36 +62,36 @@ fn lent(is_over: bool, entries: &[u8], used: usize) -> usize
 }
 
 // Shows what is new of the output, of which so many bytes are shown.
-fn show_new(out: &[u8], end: usize, shown: usize) -> bool {
+fn show_new(rt: &HostRuntime, out: &[u8], end: usize, shown: usize) -> Result<()> {
     let to = least(end, out.len());
     let from = least(shown, to);
-    io::write_all(STDOUT_FILENO, &out[from..to])
+    written(rt, &out[from..to])
 }
 
 // Shows the prompt at a terminal, unless it is shown already, and tells how much of the screen is shown then.
-fn prompted(end: usize, shown: usize) -> usize {
+fn prompted(rt: &HostRuntime, end: usize, shown: usize) -> usize {
     if end < shown {
         return shown;
     }
-    if libc::isatty(STDIN_FILENO) != 1 {
+    if !rt.stdin().is_terminal() {
         return end;
     }
-    io::write_all(STDOUT_FILENO, b"<== Please input: ");
+    let _ = written(rt, b"<== Please input: ");
     least(end, OUTPUT_ROOM) + PROMPT_LENGTH
 }
 
 // At a terminal, the end of the entries leaves the line of the prompt open.
-fn end_line() {
-    if libc::isatty(STDIN_FILENO) == 1 {
-        io::write_all(STDERR_FILENO, b"\n");
+fn end_line(rt: &HostRuntime) {
+    if rt.stdin().is_terminal() {
+        complain(rt, b"\n");
     }
 }
 
 // Reads more entries.
-fn read_on(state: State, entries: &mut [u8]) -> State {
+fn read_on(rt: &HostRuntime, state: State, entries: &mut [u8]) -> State {
     let ended = state.ended;
     let used = state.used;
-    let shown = prompted(ended.out_len, state.shown);
+    let shown = prompted(rt, ended.out_len, state.shown);
     if entries.len() <= used {
         return State {
             stage: Stage::Full,
@@ -99,10 +100,10 @@ fn read_on(state: State, entries: &mut [u8]) -> State {
             ended,
         };
     }
-    let got = read_more(STDIN_FILENO, entries, used);
-    if got.is_failed {
+    let got = read_more(&mut rt.stdin(), entries, used);
+    if let Some(reason) = got.failure {
         return State {
-            stage: Stage::Unread,
+            stage: Stage::Unread(reason),
             used,
             shown,
             ended,
@@ -110,7 +111,7 @@ fn read_on(state: State, entries: &mut [u8]) -> State {
     }
     let n = got.bytes;
     if n == 0 {
-        end_line();
+        end_line(rt);
         return State {
             stage: Stage::Over,
             used,
@@ -143,6 +144,7 @@ fn goes_on(stage: Stage) -> bool {
 
 // One turn: the sheet with the entries so far, what is new of its output, and where it wants a line, more entries.
 fn turn(
+    rt: &HostRuntime,
     is_walk: bool,
     budget: u32,
     text: &[u8],
@@ -168,9 +170,9 @@ fn turn(
         &entries[..n],
         out,
     );
-    if !show_new(out, ended.out_len, shown) {
+    if let Err(reason) = show_new(rt, out, ended.out_len, shown) {
         return State {
-            stage: Stage::Unwritten,
+            stage: Stage::Unwritten(reason),
             used,
             shown,
             ended,
@@ -193,6 +195,7 @@ fn turn(
         };
     }
     read_on(
+        rt,
         State {
             stage,
             used,
@@ -203,8 +206,9 @@ fn turn(
     )
 }
 
-// The whole session. It counts its turns down, from more than its room for entries allows.
+// The whole session. It has more turns than its room for entries allows.
 pub fn session(
+    rt: &HostRuntime,
     is_walk: bool,
     budget: u32,
     text: &[u8],
@@ -226,16 +230,14 @@ pub fn session(
         shown: 0,
         ended,
     };
-    let mut turns = TURNS;
-    while 0 < turns {
+    for _ in 0..TURNS {
         let stage = now.stage;
         if !goes_on(stage) {
             return now;
         }
         now = turn(
-            is_walk, budget, text, kinds, levels, operands, now, entries, out,
+            rt, is_walk, budget, text, kinds, levels, operands, now, entries, out,
         );
-        turns -= 1;
     }
     now
 }

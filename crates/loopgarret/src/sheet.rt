@@ -9,17 +9,24 @@ use desk::rooms;
 use desk::words::{Asked, Command};
 
 // Reads the sheet.
-pub fn open(command: Command, asked: Asked, name: &[u8]) -> u8 {
+pub fn open(rt: &HostRuntime, command: Command, asked: Asked, name: &[u8]) -> u8 {
     let mut text = rooms::source();
-    let got = read_file(name, &mut text);
-    if got.is_failed {
-        return say::failed(name);
+    let got = read_file(rt, name, &mut text);
+    if let Some(reason) = got.failure {
+        return say::failed(rt, name, reason);
     }
-    read(command, asked, name, &text, got.bytes)
+    read(rt, command, asked, name, &text, got.bytes)
 }
 
 // The sheet is there, of so many bytes; its code is made.
-fn read(command: Command, asked: Asked, name: &[u8], text: &[u8], bytes: usize) -> u8 {
+fn read(
+    rt: &HostRuntime,
+    command: Command,
+    asked: Asked,
+    name: &[u8],
+    text: &[u8],
+    bytes: usize,
+) -> u8 {
     let n = clip(bytes, text);
     let text = &text[..n];
     let mut kinds = rooms::kinds();
@@ -27,9 +34,10 @@ fn read(command: Command, asked: Asked, name: &[u8], text: &[u8], bytes: usize) 
     let mut operands = rooms::operands();
     let made = compiled(text, &mut kinds, &mut levels, &mut operands);
     if made.number != 0 {
-        return say::refusal(name, made.number);
+        return say::refusal(rt, name, made.number);
     }
     carry_out(
+        rt,
         command,
         asked,
         name,
@@ -44,6 +52,7 @@ fn read(command: Command, asked: Asked, name: &[u8], text: &[u8], bytes: usize) 
 // The sheet is accepted, and this is its code, of so many instructions. A code list is as long as the shortest of its
 // three parts, so cutting one is enough.
 fn carry_out(
+    rt: &HostRuntime,
     command: Command,
     asked: Asked,
     name: &[u8],
@@ -56,17 +65,17 @@ fn carry_out(
     let n = clip_code(n, kinds);
     let kinds = &kinds[..n];
     match command {
-        Command::Check => say::accepted(name, n),
-        Command::Compile => list(kinds, levels, operands),
-        Command::Walk => play(Way::Walk, asked, name, text, kinds, levels, operands),
-        Command::Both => play(Way::Both, asked, name, text, kinds, levels, operands),
-        _ => play(Way::Run, asked, name, text, kinds, levels, operands),
+        Command::Check => say::accepted(rt, name, n),
+        Command::Compile => list(rt, kinds, levels, operands),
+        Command::Walk => play(rt, Way::Walk, asked, name, text, kinds, levels, operands),
+        Command::Both => play(rt, Way::Both, asked, name, text, kinds, levels, operands),
+        _ => play(rt, Way::Run, asked, name, text, kinds, levels, operands),
     }
 }
 
 // Prints the instructions.
-fn list(kinds: &[i8], levels: &[u16], operands: &[i64]) -> u8 {
+fn list(rt: &HostRuntime, kinds: &[i8], levels: &[u16], operands: &[i64]) -> u8 {
     let mut page = rooms::listing();
     let n = put_listing(&mut page, 0, kinds, levels, operands);
-    say::answer_page(&page, n)
+    say::answer_page(rt, &page, n)
 }

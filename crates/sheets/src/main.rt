@@ -1,5 +1,9 @@
 // Replays the example sheets: each with its entries, held to the output and the number that it must give. The words are four
 // to a case: a sheet, its entries, its output, its number.
+#![tactic(auto)]
+
+ghost use Rattle.std.specs.Prelude.{◌≤◌, length};
+
 use check::same;
 use desk::files::read_file;
 use desk::listing::clip_code;
@@ -7,7 +11,8 @@ use desk::page::clip;
 use desk::rooms;
 use desk::words::{BUDGET, Count, count_of};
 use engine::Compiled;
-use libc::STDOUT_FILENO;
+use std::env::FillError;
+use std::rt::Env;
 
 // Words to a case.
 const WORDS: usize = 4;
@@ -82,11 +87,32 @@ fn sheet_gives(text: &[u8], entries: &[u8], wanted: &[u8], number: u8) -> bool {
     )
 }
 
+// How many words there are, with the program's own name.
+fn count_words(rt: &HostRuntime) -> usize {
+    let mut word = io::buffer();
+    for i in 0..usize::MAX {
+        if let Err(FillError::NotPresent) = rt.arg(i, &mut word) {
+            return i;
+        }
+    }
+    usize::MAX
+}
+
+// Takes the word at a place, and tells how many bytes it has; none where it is too long.
+fn take_word(rt: &HostRuntime, i: usize, room: &mut [u8]) -> usize
+    ensures { result ≤ length room.new }
+{
+    match rt.arg(i, room) {
+        Ok(n) => n,
+        Err(_) => 0,
+    }
+}
+
 // Reads the file that the word at a place names, and tells how many bytes it has.
-fn read_word(i: usize, room: &mut [u8]) -> usize {
+fn read_word(rt: &HostRuntime, i: usize, room: &mut [u8]) -> usize {
     let mut name = io::buffer();
-    let n = os::arg(i, &mut name);
-    let got = read_file(&name[..n], room);
+    let n = take_word(rt, i, &mut name);
+    let got = read_file(rt, &name[..n], room);
     got.bytes
 }
 
@@ -103,9 +129,9 @@ fn number_of(word: &[u8]) -> u8 {
 }
 
 // The number that the word at a place means.
-fn read_number(i: usize) -> u8 {
+fn read_number(rt: &HostRuntime, i: usize) -> u8 {
     let mut word = io::buffer();
-    let n = os::arg(i, &mut word);
+    let n = take_word(rt, i, &mut word);
     number_of(&word[..n])
 }
 
@@ -126,33 +152,33 @@ fn rooms_give(
 }
 
 // Whether a case gives what it must: the places of its four words.
-fn is_right(sheet: usize, input: usize, output: usize, number: usize) -> bool {
+fn is_right(rt: &HostRuntime, sheet: usize, input: usize, output: usize, number: usize) -> bool {
     let mut text = rooms::source();
     let mut entries = [0u8; ROOM];
     let mut wanted = [0u8; ROOM];
-    let t = read_word(sheet, &mut text);
-    let e = read_word(input, &mut entries);
-    let w = read_word(output, &mut wanted);
-    rooms_give(&text, t, &entries, e, &wanted, w, read_number(number))
+    let t = read_word(rt, sheet, &mut text);
+    let e = read_word(rt, input, &mut entries);
+    let w = read_word(rt, output, &mut wanted);
+    rooms_give(&text, t, &entries, e, &wanted, w, read_number(rt, number))
 }
 
 // Says how a case went.
-fn replay(sheet: usize, input: usize, output: usize, number: usize) {
+fn replay(rt: &HostRuntime, sheet: usize, input: usize, output: usize, number: usize) {
     let mut name = io::buffer();
-    let n = os::arg(sheet, &mut name);
-    io::write_all(STDOUT_FILENO, &name[..n]);
-    if is_right(sheet, input, output, number) {
-        io::write_all(STDOUT_FILENO, b" gives what it must\n");
+    let n = take_word(rt, sheet, &mut name);
+    let _ = rt.write_all(&name[..n]);
+    if is_right(rt, sheet, input, output, number) {
+        let _ = rt.write_all(b" gives what it must\n");
     } else {
-        io::write_all(STDOUT_FILENO, b" DOES NOT GIVE what it must\n");
+        let _ = rt.write_all(b" DOES NOT GIVE what it must\n");
     }
 }
 
-fn main() {
-    let words = os::arg_count();
+fn main(rt: HostRuntime) {
+    let words = count_words(&rt);
     let mut i = 1;
     while i < words && words - i >= WORDS {
-        replay(i, i + 1, i + 2, i + 3);
+        replay(&rt, i, i + 1, i + 2, i + 3);
         i += WORDS;
     }
 }
