@@ -5,10 +5,8 @@ ghost use Rattle.replay.specs.Turns.{TurnWithin};
 
 use protocol::parts::{is_same, part, part_length};
 use protocol::print::{put_byte, put_text};
-
-const STDIN: i32 = 0;
-
-const STDOUT: i32 = 1;
+use std::io;
+use std::io::Read;
 
 const NEWLINE: u8 = b'\n';
 
@@ -18,6 +16,15 @@ const NEWLINE: u8 = b'\n';
 pub enum Turn {
     More(usize, bool),
     Over,
+}
+
+// Where the cases come from and the answers go; and whether all that was read and written so far went well, or the first
+// error. Such an error ends the reading after the turn that it comes in.
+#[derive(Drop)]
+pub struct Streams<'a, I, P> {
+    input: I,
+    output: &'a P,
+    outcome: io::Result<()>,
 }
 
 // A case's name, and what follows it.
@@ -55,15 +62,21 @@ fn answer_case(line: &[u8], answer: &mut [u8]) -> usize
 }
 
 // Writes an answer and a newline.
-fn write_answer(answer: &mut [u8], n: usize)
+fn write_answer<I, P: Print>(streams: &mut Streams<I, P>, answer: &mut [u8], n: usize)
     requires { n ≤ length answer.old }
 {
     let e = put_byte(answer, n, NEWLINE);
-    io::write_all(STDOUT, &answer[..e]);
+    let written = streams.output.write_all(&answer[..e]);
+    streams.outcome = streams.outcome.and(written);
 }
 
 // Answers a line, unless it is to be skipped. An empty line is no case.
-fn answer_line(skip: bool, line: &[u8], answer: &mut [u8]) {
+fn answer_line<I, P: Print>(
+    streams: &mut Streams<I, P>,
+    skip: bool,
+    line: &[u8],
+    answer: &mut [u8],
+) {
     if skip {
         return;
     }
@@ -71,7 +84,7 @@ fn answer_line(skip: bool, line: &[u8], answer: &mut [u8]) {
         return;
     }
     let n = answer_case(line, answer);
-    write_answer(answer, n);
+    write_answer(streams, answer, n);
 }
 
 // Moves the bytes from `from` up to `to` to the front.
@@ -87,7 +100,13 @@ fn shift(text: &mut [u8], from: usize, to: usize)
 }
 
 // Answers the whole lines among the first bytes, and moves what is left to the front.
-fn answer_lines(text: &mut [u8], have: usize, long: bool, answer: &mut [u8]) -> Turn
+fn answer_lines<I, P: Print>(
+    streams: &mut Streams<I, P>,
+    text: &mut [u8],
+    have: usize,
+    long: bool,
+    answer: &mut [u8],
+) -> Turn
     requires { have ≤ length text.old }
     ensures { TurnWithin (length text.old) result }
 {
@@ -100,7 +119,7 @@ fn answer_lines(text: &mut [u8], have: usize, long: bool, answer: &mut [u8]) -> 
             shift(text, at, have);
             return Turn::More(have - at, skip);
         }
-        answer_line(skip, &rest[..n], answer);
+        answer_line(streams, skip, &rest[..n], answer);
         skip = false;
         at = at + n + 1;
     }
@@ -108,17 +127,26 @@ fn answer_lines(text: &mut [u8], have: usize, long: bool, answer: &mut [u8]) -> 
 }
 
 // Reads behind the bytes that are there, and tells how many there are then.
-fn read_more(text: &mut [u8], have: usize) -> usize
+fn read_more<I: Read, P>(streams: &mut Streams<I, P>, text: &mut [u8], have: usize) -> usize
     requires { have ≤ length text.old }
     ensures { result ≤ length text.old }
 {
-    let rest = &mut text[have..];
-    let got = libc::read(STDIN, rest);
-    have + io::count(got, rest)
+    match streams.input.read(&mut text[have..]) {
+        Ok(got) => have + got,
+        Err(error) => {
+            streams.outcome = streams.outcome.and(Err(error));
+            have
+        }
+    }
 }
 
 // A line that fills the whole text is too long: it is answered by its name, and what remains of it is skipped.
-fn cut_long(text: &mut [u8], turn: Turn, answer: &mut [u8]) -> Turn
+fn cut_long<I, P: Print>(
+    streams: &mut Streams<I, P>,
+    text: &mut [u8],
+    turn: Turn,
+    answer: &mut [u8],
+) -> Turn
     ensures { TurnWithin (length text.old) result }
 {
     let Turn::More(have, long) = turn else {
@@ -131,35 +159,49 @@ fn cut_long(text: &mut [u8], turn: Turn, answer: &mut [u8]) -> Turn
         return Turn::More(0, true);
     }
     let n = unknown(text, answer);
-    write_answer(answer, n);
+    write_answer(streams, answer, n);
     Turn::More(0, true)
 }
 
 // Reads once, and answers what lines are whole.
-fn take_turn(text: &mut [u8], have: usize, long: bool, answer: &mut [u8]) -> Turn
+fn take_turn<I: Read, P: Print>(
+    streams: &mut Streams<I, P>,
+    text: &mut [u8],
+    have: usize,
+    long: bool,
+    answer: &mut [u8],
+) -> Turn
     requires { have ≤ length text.old }
     ensures { TurnWithin (length text.old) result }
 {
-    let more = read_more(text, have);
+    let more = read_more(streams, text, have);
     if more == have {
-        answer_line(long, &text[..have], answer);
+        answer_line(streams, long, &text[..have], answer);
         return Turn::Over;
     }
-    let turn = answer_lines(text, more, long, answer);
-    cut_long(text, turn, answer)
+    let turn = answer_lines(streams, text, more, long, answer);
+    cut_long(streams, text, turn, answer)
 }
 
-// Answers every case on standard input. A loop has to end: this one counts its turns down from a number that no run uses up.
-pub fn serve(text: &mut [u8], answer: &mut [u8]) {
+// Answers every case on standard input, and returns the first error that reading or writing gave. A loop has to end: this
+// one counts its turns, up to a number that no run comes to.
+pub fn serve<R: Input + Print>(rt: &R, text: &mut [u8], answer: &mut [u8]) -> io::Result<()> {
+    let mut streams = Streams {
+        input: rt.reader(),
+        output: rt,
+        outcome: Ok(()),
+    };
     let mut have = 0;
     let mut long = false;
-    let mut turns = u64::MAX;
-    while 0 < turns {
-        let Turn::More(n, l) = take_turn(text, have, long, answer) else {
-            return;
+    for _ in 0..u64::MAX {
+        let Turn::More(n, l) = take_turn(&mut streams, text, have, long, answer) else {
+            break;
         };
+        if streams.outcome.is_err() {
+            break;
+        }
         have = n;
         long = l;
-        turns = turns - 1;
     }
+    streams.outcome
 }

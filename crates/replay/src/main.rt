@@ -1,5 +1,7 @@
 // Reads cases on standard input, a case to a line, and writes an answer to each. A case that cannot be read, or that is
 // of no known sort, is answered by its name and `unknown`.
+#![tactic(auto)]
+
 mod compile;
 mod lines;
 mod lists;
@@ -7,6 +9,8 @@ mod run;
 mod walks;
 
 ghost use Rattle.std.specs.Prelude.{◌≡◌, length};
+
+use std::io;
 
 // Room for the longest line, and for 1 MiB beside it.
 const TEXT: usize = 1572864;
@@ -26,8 +30,8 @@ fn answer_room() -> [u8; ANSWER]
     [0; ANSWER]
 }
 
-fn main() {
+fn main(rt: HostRuntime) -> io::Result<()> {
     let mut text = text_room();
     let mut answer = answer_room();
-    lines::serve(&mut text, &mut answer);
+    lines::serve(&rt, &mut text, &mut answer)
 }
