@@ -10,7 +10,7 @@ ghost use Rattle.tree.specs.Nodes.{arith_no, compare_no};
 ghost use Rattle.tree.specs.Standing.{ExpAt, HasExp, CondAt, HasCond};
 ghost use Rattle.symbols.specs.Symbols.{main_scope, find};
 ghost use Rattle.symbols.specs.Table.{part};
-ghost use Rattle.walk.specs.Walk.{State, push, result, value_in, walk_exp, walk_cond};
+ghost use Rattle.walk.specs.Walk.{State, push, result as ended, value_in, walk_exp, walk_cond};
 ghost use Rattle.walk.specs.Meets.{Known, rows_of, Cells, Shows, Gives, neg_walk, link_walk, rel_walk};
 
 use numbers::arithmetic;
@@ -71,7 +71,7 @@ pub enum Valued {
 
 // One step that pushes a value: 16, then 17.
 pub fn push(z: i64, c: Clock) -> Valued
-    ensures* { λ r. ⌜ ((w : State) → w.top ≡ c.top → Gives (c.top + 1) c w (push z c.left w) r) ⌝ }
+    ensures { (w : State) → w.top ≡ c.top → Gives (c.top + 1) c w (push z c.left w) result }
 {
     if c.left == 0 {
         return Valued::Stopped(BUDGET_SPENT, c);
@@ -90,7 +90,7 @@ pub fn push(z: i64, c: Clock) -> Valued
 
 // One step of an operator, after which the top is `top`: 16, then the operator's own refusal.
 fn settle(a: Answer, top: usize, c: Clock) -> Valued
-    ensures* { λ r. ⌜ ((w : State) → w.top ≡ c.top → Gives top c w (result top (val_of a) c.left w) r) ⌝ }
+    ensures { (w : State) → w.top ≡ c.top → Gives top c w (ended top (val_of a) c.left w) result }
 {
     if c.left == 0 {
         return Valued::Stopped(BUDGET_SPENT, c);
@@ -110,14 +110,14 @@ fn settle(a: Answer, top: usize, c: Clock) -> Valued
 // A constant's value by its halves.
 fn whole(low: u32, high: u32) -> i64
     requires { low + 4294967296 * high ≤ greatest }
-    ensures* { λ r. ⌜ r ≡ pos (low + 4294967296 * high) ⌝ }
+    ensures { result ≡ pos (low + 4294967296 * high) }
 {
     (low as u64 + HALF * high as u64) as i64
 }
 
 // The place of a row's variable.
 pub fn place_of(address: u32) -> usize
-    ensures* { λ r. ⌜ r ≡ address - links ⌝ }
+    ensures { result ≡ address - links }
 {
     if address < LINKS {
         return 0;
@@ -128,7 +128,7 @@ pub fn place_of(address: u32) -> usize
 // The value of the variable in a place, 0 where there is none.
 fn variable(vars: &[i64], count: usize, place: usize) -> i64
     requires { count ≤ length vars.now }
-    ensures* { λ r. ⌜ ((vs : List ℤ) → Cells vars.now count vs → r ≡ get_or vs place (pos 0)) ⌝ }
+    ensures { (vs : List ℤ) → Cells vars.now count vs → result ≡ get_or vs place (pos 0) }
 {
     if place < count {
         return vars[place];
@@ -140,7 +140,7 @@ fn variable(vars: &[i64], count: usize, place: usize) -> i64
 fn value_of(text: &[u8], table: &[u32], env: Env, vars: &[i64], at: u32, len: u32) -> i64
     requires known { Known text.now table.now env vars.now }
     requires len_in_bounds { at + len ≤ length text.now }
-    ensures* { λ r. ⌜ ((vs : List ℤ) → Cells vars.now env.vars vs → r ≡ value_in (find (rows_of text.now table.now env) (part text.now at len) main_scope) vs) ⌝ }
+    ensures { (vs : List ℤ) → Cells vars.now env.vars vs → result ≡ value_in (find (rows_of text.now table.now env) (part text.now at len) main_scope) vs }
 {
     let f = symbols::find(text, table, env.used, at, len);
     let Found::At(k) = f else {
@@ -158,7 +158,7 @@ fn value_of(text: &[u8], table: &[u32], env: Env, vars: &[i64], at: u32, len: u3
 
 // An operator by its number in the tree.
 fn operate(op: u32, x: i64, y: i64) -> Answer
-    ensures* { λ r. ⌜ ((o : Arith) → op ≡ arith_no o → val_of r ≡ arith o x y) ⌝ }
+    ensures { (o : Arith) → op ≡ arith_no o → val_of result ≡ arith o x y }
 {
     if op == ADD {
         return arithmetic::add(x, y);
@@ -174,7 +174,7 @@ fn operate(op: u32, x: i64, y: i64) -> Answer
 
 // A comparison by its number in the tree.
 fn compare(op: u32, x: i64, y: i64) -> bool
-    ensures* { λ r. ⌜ ((o : Compare) → op ≡ compare_no o → r ≡ compare o x y) ⌝ }
+    ensures { (o : Compare) → op ≡ compare_no o → result ≡ compare o x y }
 {
     if op == EQUAL {
         return arithmetic::is_equal(x, y);
@@ -207,7 +207,7 @@ pub fn exp(
 ) -> Valued
     requires known { Known text.now table.now env vars.now }
     requires has_exp { HasExp text.now tree.now i }
-    ensures* { λ r. ⌜ ((t : Exp) → ExpAt text.now tree.now i t → (w : State) → Shows vars.now env c w → Gives (c.top + 1) c w (walk_exp (rows_of text.now table.now env) t c.left w) r) ⌝ }
+    ensures { (t : Exp) → ExpAt text.now tree.now i t → (w : State) → Shows vars.now env c w → Gives (c.top + 1) c w (walk_exp (rows_of text.now table.now env) t c.left w) result }
 {
     let kind = tree[i];
     if kind == CHAIN {
@@ -241,7 +241,7 @@ fn negated(
 ) -> Valued
     requires known { Known text.now table.now env vars.now }
     requires has_exp { HasExp text.now tree.now i }
-    ensures* { λ r. ⌜ ((t : Exp) → ExpAt text.now tree.now i t → (w : State) → Shows vars.now env c w → Gives (c.top + 1) c w (neg_walk (rows_of text.now table.now env) t c.left w) r) ⌝ }
+    ensures { (t : Exp) → ExpAt text.now tree.now i t → (w : State) → Shows vars.now env c w → Gives (c.top + 1) c w (neg_walk (rows_of text.now table.now env) t c.left w) result }
 {
     let r = exp(tree, i, text, table, env, vars, c);
     let Valued::Value(z, d) = r else {
@@ -264,7 +264,7 @@ fn linked(
 ) -> Valued
     requires known { Known text.now table.now env vars.now }
     requires has_exp { HasExp text.now tree.now j }
-    ensures* { λ r. ⌜ ((o : Arith) (t : Exp) → get_or tree.now (j + 1) 0 ≡ arith_no o → ExpAt text.now tree.now j t → (w : State) → Shows vars.now env c w → Gives c.top c w (link_walk (rows_of text.now table.now env) o x t c.left w) r) ⌝ }
+    ensures { (o : Arith) (t : Exp) → get_or tree.now (j + 1) 0 ≡ arith_no o → ExpAt text.now tree.now j t → (w : State) → Shows vars.now env c w → Gives c.top c w (link_walk (rows_of text.now table.now env) o x t c.left w) result }
 {
     let r = exp(tree, j, text, table, env, vars, c);
     let Valued::Value(y, d) = r else {
@@ -287,7 +287,7 @@ fn chain(
     requires known { Known text.now table.now env vars.now }
     requires has_exp { HasExp text.now tree.now i }
     requires i_value { get_or tree.now i 0 ≡ node_no chain_kind }
-    ensures* { λ r. ⌜ ((t : Exp) → ExpAt text.now tree.now i t → (w : State) → Shows vars.now env c w → Gives (c.top + 1) c w (walk_exp (rows_of text.now table.now env) t c.left w) r) ⌝ }
+    ensures { (t : Exp) → ExpAt text.now tree.now i t → (w : State) → Shows vars.now env c w → Gives (c.top + 1) c w (walk_exp (rows_of text.now table.now env) t c.left w) result }
 {
     let count = tree::number_at(tree, i + 2);
     let r = exp(tree, i + 4, text, table, env, vars, c);
@@ -323,7 +323,7 @@ pub fn cond(
 ) -> Valued
     requires known { Known text.now table.now env vars.now }
     requires has_cond { HasCond text.now tree.now i }
-    ensures* { λ r. ⌜ ((t : Cond) → CondAt text.now tree.now i t → (w : State) → Shows vars.now env c w → Gives (c.top + 1) c w (walk_cond (rows_of text.now table.now env) t c.left w) r) ⌝ }
+    ensures { (t : Cond) → CondAt text.now tree.now i t → (w : State) → Shows vars.now env c w → Gives (c.top + 1) c w (walk_cond (rows_of text.now table.now env) t c.left w) result }
 {
     let r = exp(tree, i + 4, text, table, env, vars, c);
     let Valued::Value(x, d) = r else {
@@ -359,7 +359,7 @@ fn related(
 ) -> Valued
     requires known { Known text.now table.now env vars.now }
     requires has_exp { HasExp text.now tree.now i }
-    ensures* { λ r. ⌜ ((o : Compare) (t : Exp) → op ≡ compare_no o → ExpAt text.now tree.now i t → (w : State) → Shows vars.now env c w → Gives c.top c w (rel_walk (rows_of text.now table.now env) o x t c.left w) r) ⌝ }
+    ensures { (o : Compare) (t : Exp) → op ≡ compare_no o → ExpAt text.now tree.now i t → (w : State) → Shows vars.now env c w → Gives c.top c w (rel_walk (rows_of text.now table.now env) o x t c.left w) result }
 {
     let r = exp(tree, i, text, table, env, vars, c);
     let Valued::Value(y, d) = r else {
