@@ -1,5 +1,4 @@
 -- The proof of `start`.
-use borrow.Author.Rules.{rules}
 use native.Mathlib.Omega.{arith}
 use Rattle.walk.proofs.Whole.{start_spent, start_opened}
 use Rattle.walk.proofs.start.Goals as goal

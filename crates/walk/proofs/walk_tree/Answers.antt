@@ -1,5 +1,4 @@
 -- The proof of `walk_tree`.
-use borrow.Author.Rules.{rules}
 use native.Mathlib.Omega.{arith}
 use Rattle.walk.proofs.Whole.{consts_at, names_at, procs_at, names_count, few, rows_in_lem, main_in, main_held, whole_spent, whole_walked}
 use Rattle.walk.proofs.walk_tree.Goals as goal

@@ -1,5 +1,4 @@
 -- The proof of `compare`.
-use borrow.Author.Rules.{rules}
 use native.Mathlib.Omega.{arith}
 use mathlib.Core.Path.{◌≡◌}
 use Rattle.numbers.specs.Arithmetic.{compare, equal, unequal, less, at_least, greater, at_most}

@@ -1,5 +1,4 @@
 -- The proof of `operate`.
-use borrow.Author.Rules.{rules}
 use native.Mathlib.Omega.{arith as linear}
 use mathlib.Core.Path.{◌≡◌}
 use Rattle.numbers.specs.Arithmetic.{arith, add, sub, mul, div}

@@ -1,5 +1,4 @@
 -- The proof of `push`.
-use borrow.Author.Rules.{rules}
 use mir.Syntax.{w64}
 use mir.ValLaws.{to_z-of_z}
 use Rattle.walk.proofs.Steps.{push_spent, push_full, push_on}

@@ -1,10 +1,9 @@
 -- The proof of `value_of`.
-use borrow.Author.Rules.{rules, sfits_of}
+use borrow.Author.Rules.{sfits_of}
 use mathlib.Core.Path.{◌∙◌}
 use mir.Syntax.{w64}
 use mir.ValLaws.{to_z-of_z}
 use Rattle.walk.proofs.Lookup.{nothing_value, row_lies, row_small, const_value, var_value, other_value}
-use borrow.Author.Rules.{rules}
 use Rattle.walk.proofs.expressions.value_of.Goals as goal
 
 pub find-f-requires : goal.find-f-requires

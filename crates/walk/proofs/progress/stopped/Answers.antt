@@ -1,5 +1,4 @@
 -- The proof of `stopped`.
-use borrow.Author.Rules.{rules}
 use Rattle.walk.proofs.Ends.{not_stopped, stopped_is}
 use Rattle.walk.proofs.progress.stopped.Goals as goal
 

@@ -1,5 +1,4 @@
 -- The proof of `tick`.
-use borrow.Author.Rules.{rules}
 use mathlib.Core.Path.{refl, ap}
 use Rattle.walk.specs.declared.progress.Outcome.TheVariants.{Done}
 use Rattle.walk.specs.Walk.{at_top}

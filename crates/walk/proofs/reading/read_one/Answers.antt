@@ -1,12 +1,11 @@
 -- The proof of `read_one`.
-use borrow.Author.Rules.{rules, sfits_of}
+use borrow.Author.Rules.{rules}
 use mir.Syntax.{w64}
 use mir.ValLaws.{to_z-of_z}
 use Rattle.walk.specs.Walk.{store}
 use Rattle.walk.specs.Meets.{rows_of}
 use Rattle.walk.proofs.Ends.{read_stop, read_then}
 use borrow.Author.Rules.{rules}
-use Rattle.walk.proofs.reading.read_one.Reads as reads
 use Rattle.walk.proofs.reading.read_one.Goals as goal
 
 pub read_line-r-requires : goal.read_line-r-requires

@@ -1,13 +1,9 @@
 -- The proof of `reads`.
-use borrow.Author.Rules.{rules}
-use native.Mathlib.Omega.{arith}
-use mathlib.Core.Path.{◌≡◌, refl, ◌∙◌}
+use mathlib.Core.Path.{◌≡◌}
 use Prim.Native.Nat.{◌-◌}
 use lib.ListN.{length}
-use Rattle.tree.specs.Parts.{stmt_fits}
 use Rattle.walk.specs.Meets.{rows_of}
-use Rattle.walk.proofs.Members.{along_held, along_next, along_halt, along_more, along_done}
-use Rattle.walk.proofs.Listed.{held_room, ReadsF, ReadsLoop, reads_start, reads_end, the_read, reads_whole}
+use Rattle.walk.proofs.Listed.{ReadsLoop}
 use Rattle.walk.proofs.reading.reads.Given as goal
 
 abbrev pub invariant-loop-k : goal.invariant-loop-k

@@ -1,5 +1,4 @@
 -- The proof of the cycle of calls of statements.
-use borrow.Author.Rules.{rules}
 use native.Mathlib.Omega.{arith}
 use mathlib.Core.Path.{refl, ◌∙◌}
 use Rattle.tree.specs.Parts.{stmt_fits, if_other}
@@ -40,9 +39,9 @@ body-returns t c = body_whole _ _ _ _ c.args.env _ _ _ c.args.p c.requires.i_val
 
 pub conditional-test-t-requires : goal.conditional-test-t-requires
 conditional-test-t-requires t c = record {
-      known = record { sound = c.requires.rows.sound; seen = c.requires.rows.seen; small = c.requires.rows.small; room = held_room c.requires.has_state };
-      has_cond = if_cond c.requires.i_value c.requires.has_stmt;
-    }
+  known = record { sound = c.requires.rows.sound; seen = c.requires.rows.seen; small = c.requires.rows.small; room = held_room c.requires.has_state };
+  has_cond = if_cond c.requires.i_value c.requires.has_stmt;
+}
 
 pub conditional-after-inner-requires : goal.conditional-after-inner-requires
 conditional-after-inner-requires t c = (_, (if_cond c.requires.i_value c.requires.has_stmt).at.stands)

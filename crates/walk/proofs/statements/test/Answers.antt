@@ -1,5 +1,5 @@
 -- The proof of `test`.
-use borrow.Author.Rules.{rules, sfits_of}
+use borrow.Author.Rules.{rules}
 use borrow.Author.Tests.{eq-eqb, ne_eqb}
 use mathlib.Core.Path.{sym, ◌∙◌}
 use lib.IntN.{pos}

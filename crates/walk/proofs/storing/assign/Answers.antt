@@ -1,5 +1,5 @@
 -- The proof of `assign`.
-use borrow.Author.Rules.{rules, sfits_of}
+use borrow.Author.Rules.{rules}
 use native.Mathlib.Omega.{arith}
 use mir.Syntax.{w64}
 use mir.ValLaws.{to_z-of_z}

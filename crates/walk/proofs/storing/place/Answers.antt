@@ -1,5 +1,4 @@
 -- The proof of `place`.
-use borrow.Author.Rules.{rules}
 use Rattle.walk.proofs.Lookup.{nothing_place, row_lies, row_place}
 use Rattle.walk.proofs.storing.place.Goals as goal
 

@@ -1,5 +1,4 @@
 -- The proof of `put_variable`.
-use borrow.Author.Rules.{rules}
 use mir.Syntax.{w64}
 use mir.ValLaws.{to_z-of_z}
 use Rattle.walk.proofs.Cells.{put_in, put_out}

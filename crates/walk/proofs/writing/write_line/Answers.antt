@@ -1,5 +1,4 @@
 -- The proof of `write_line`.
-use borrow.Author.Rules.{rules}
 use Rattle.walk.proofs.Outputs.{write_spent}
 use Rattle.walk.proofs.writing.write_line.Goals as goal
 

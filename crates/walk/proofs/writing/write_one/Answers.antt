@@ -1,5 +1,5 @@
 -- The proof of `write_one`.
-use borrow.Author.Rules.{rules, sfits_of}
+use borrow.Author.Rules.{rules}
 use mathlib.Core.Path.{refl}
 use mir.Syntax.{w64}
 use mir.ValLaws.{to_z-of_z}

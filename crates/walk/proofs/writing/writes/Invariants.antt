@@ -1,14 +1,9 @@
 -- The proof of `writes`.
-use borrow.Author.Rules.{rules}
-use native.Mathlib.Omega.{arith}
-use mathlib.Core.Path.{◌≡◌, refl, ◌∙◌}
-use mathlib.Core.List.{[]}
+use mathlib.Core.Path.{◌≡◌}
 use Prim.Native.Nat.{◌-◌}
 use lib.ListN.{length}
-use Rattle.tree.specs.Parts.{stmt_fits}
 use Rattle.walk.specs.Meets.{rows_of}
-use Rattle.walk.proofs.Members.{along_next, along_halt, along_more, along_done}
-use Rattle.walk.proofs.Listed.{WritesF, WritesLoop, writes_start, writes_end, the_write, writes_whole}
+use Rattle.walk.proofs.Listed.{WritesLoop}
 use Rattle.walk.proofs.writing.writes.Given as goal
 
 abbrev pub invariant-loop-k : goal.invariant-loop-k

@@ -1,5 +1,4 @@
 -- The proof of `wrote`.
-use borrow.Author.Rules.{rules}
 use Rattle.walk.proofs.Outputs.{wrote_full, wrote_on}
 use Rattle.walk.proofs.writing.wrote.Goals as goal
 
