@@ -21,7 +21,7 @@ pub enum Turn {
 // Where the cases come from and the answers go; and whether all that was read and written so far went well, or the first
 // error. Such an error ends the reading after the turn that it comes in.
 #[derive(Drop)]
-pub struct Streams<'a, I, P> {
+struct Streams<'a, I, P> {
     input: I,
     output: &'a P,
     outcome: io::Result<()>,
