@@ -1,11 +1,9 @@
 -- What a caller learns of a callee's answer, and how a refusal goes up.
-use mathlib.Core.Path.{◌≡◌}
-use mathlib.Core.List.{List, [], ◌∷◌}
+use mathlib.Core.Path.{◌≡◌, refl}
+use mathlib.Core.List.{List}
 use Prim.Native.Nat.{ℕ, zero, suc, ◌+◌, ◌*◌, ◌≤◌}
 use native.Mathlib.Omega.{arith}
 use lib.ListN.{length}
-use types.Run.{OneOf, miss}
-use denote.Enum.Declared.{tag_of}
 use Rattle.numbers.specs.Limits.{tree_share}
 use Rattle.lexer.specs.Cursor.{Cursor as Place, Ans, refuse, Reader}
 use Rattle.lexer.specs.Marks.{Mark}
@@ -19,10 +17,10 @@ use Rattle.parser.specs.declared.see.Seen.{Seen}
 use Rattle.parser.specs.declared.see.Seen.TheVariants.{At}
 use Rattle.parser.specs.See.{Sees, Wants}
 use Rattle.parser.proofs.Seeing.{saw, took}
-use Rattle.parser.specs.contracts.answer.Answer as Ansr
 
+-- the answer is no node
 abbrev pub NoNode : Answer → Type 0
-NoNode r = OneOf (1 ∷ 2 ∷ []) (tag_of Ansr.the_type r)
+NoNode r = (e : ℕ) (d : Cursor) → r ≡ Node e d → ⊥
 
 -- a number that is large enough is no zero
 pub by_suc : (P : ℕ → Type 0) (m : ℕ) → 1 ≤ m → ((n : ℕ) → m ≤ suc n → P (suc n)) → (n : ℕ) → m ≤ n → P n
@@ -66,7 +64,7 @@ module _ {A B : Type 0} {yes : A → B} {nodes : A → Nodes} {src xs : List ℕ
       → Room src zs v s c → (r : Answer) → Meets yes (λ b. ⊥) nodes src xs u ys f m spare debt c r → NoNode r → ((w : ℕ) → Refuses src f m c w → Refuses src f' m' c' w)
       → Meets yes' no' nodes' src xs' u' ys f' m' spare' debt' c' r
   unfolding Safe Means
-  passed p (Node e d) h o g = absurd (miss (1 ∷ 2 ∷ []) 0 tt o)
+  passed p (Node e d) h o g = absurd (o e d refl)
   passed p (Nothing d) h o g = absurd (h.means m (omega arith) p.place p.stands).empty
   passed p (Refused w) h o g = refused (g w h.means)
 

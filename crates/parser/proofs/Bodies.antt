@@ -1,10 +1,9 @@
 -- A statement place by its token, bodies, and the list of a body's statements.
-use mathlib.Core.Path.{◌≡◌, refl, sym, ap, subst, ◌∙◌}
-use mathlib.Core.List.{List, [], ◌∷◌}
+use mathlib.Core.Path.{◌≡◌, refl, sym, ap, ◌∙◌}
+use mathlib.Core.List.{List}
 use mathlib.Core.Option.{Option, none, some}
 use Prim.Native.Nat.{ℕ, suc, ◌+◌, ◌*◌, ◌≤◌, ◌<◌}
 use native.Mathlib.Omega.{arith}
-use types.Run.{OneOf, miss}
 use Rattle.numbers.specs.Panel.{too_many_open}
 use Rattle.numbers.specs.Limits.{max_open}
 use Rattle.lexer.specs.Marks.{if_word, then_word, else_word, while_word, do_word, const_word, var_word, procedure_word, program_word, begin_word, end_word, call_word, read_word, write_word, odd_word, plus_sign, minus_sign, times_sign, divide_sign, equal_sign, less_sign, greater_sign, at_most_sign, at_least_sign, unequal_sign, becomes_sign, open_sign, close_sign, semicolon_sign, comma_sign, place_of, same, listed}
@@ -26,51 +25,48 @@ use Rattle.grammar.specs.Grammar.{Start, assign_start, if_start, while_start, ca
 use Rattle.parser.specs.Pieces as P
 use Rattle.parser.specs.See.{Sees, Wants, why_of}
 use Rattle.parser.specs.Meets.{Room, Safe, Made, Quiet, Means, Tries}
-use Rattle.parser.proofs.Tokens.{tag, kind_in, known}
+use Rattle.parser.proofs.Tokens.{kind_in, known, plain, no_identifier, no_plain}
 use Rattle.parser.proofs.Seeing.{saw, no_look, took, no_mark, enters, enters_not}
 use Rattle.parser.proofs.Writing.{wrote_none}
 use Rattle.parser.proofs.Leaves.{looked_at}
 use Rattle.parser.proofs.Answers.{Refuses, by_suc, refused, grew, made, Moved}
 use Rattle.parser.proofs.Tries.{quiet, Quietly, nothing}
 
--- the variants that start no statement
-abbrev pub no_start : List ℕ
-no_start = 1 ∷ 2 ∷ 4 ∷ 5 ∷ 6 ∷ 7 ∷ 8 ∷ 10 ∷ 14 ∷ 15 ∷ 16 ∷ 17 ∷ 18 ∷ 19 ∷ 20 ∷ 21 ∷ 22 ∷ 23 ∷ 24 ∷ 25 ∷ 26 ∷ 27 ∷ 28 ∷ 29 ∷ 31 ∷ 32 ∷ 33 ∷ 34 ∷ 35 ∷ []
-
-no_start_lem : (w : Word) → OneOf no_start (kind_in w) → start_of w ≡ none
+-- a word that starts no statement
+no_start_lem : (w : Word) → (kind_in w ≡ 30 → ⊥) → (kind_in w ≡ 0 → ⊥) → (kind_in w ≡ 3 → ⊥) → (kind_in w ≡ 11 → ⊥) → (kind_in w ≡ 9 → ⊥) → (kind_in w ≡ 12 → ⊥) → (kind_in w ≡ 13 → ⊥) → start_of w ≡ none
 unfolding kind_in start_of listed starts same place_of
-no_start_lem (mark if_word) h = absurd (miss no_start 0 tt h)
-no_start_lem (mark then_word) h = refl
-no_start_lem (mark else_word) h = refl
-no_start_lem (mark while_word) h = absurd (miss no_start 3 tt h)
-no_start_lem (mark do_word) h = refl
-no_start_lem (mark const_word) h = refl
-no_start_lem (mark var_word) h = refl
-no_start_lem (mark procedure_word) h = refl
-no_start_lem (mark program_word) h = refl
-no_start_lem (mark begin_word) h = absurd (miss no_start 9 tt h)
-no_start_lem (mark end_word) h = refl
-no_start_lem (mark call_word) h = absurd (miss no_start 11 tt h)
-no_start_lem (mark read_word) h = absurd (miss no_start 12 tt h)
-no_start_lem (mark write_word) h = absurd (miss no_start 13 tt h)
-no_start_lem (mark odd_word) h = refl
-no_start_lem (mark plus_sign) h = refl
-no_start_lem (mark minus_sign) h = refl
-no_start_lem (mark times_sign) h = refl
-no_start_lem (mark divide_sign) h = refl
-no_start_lem (mark equal_sign) h = refl
-no_start_lem (mark less_sign) h = refl
-no_start_lem (mark greater_sign) h = refl
-no_start_lem (mark at_most_sign) h = refl
-no_start_lem (mark at_least_sign) h = refl
-no_start_lem (mark unequal_sign) h = refl
-no_start_lem (mark becomes_sign) h = refl
-no_start_lem (mark open_sign) h = refl
-no_start_lem (mark close_sign) h = refl
-no_start_lem (mark semicolon_sign) h = refl
-no_start_lem (mark comma_sign) h = refl
-no_start_lem (name n) h = absurd (miss no_start 30 tt h)
-no_start_lem (number v) h = refl
+no_start_lem (mark if_word) a b c e f g h = absurd (b refl)
+no_start_lem (mark then_word) a b c e f g h = refl
+no_start_lem (mark else_word) a b c e f g h = refl
+no_start_lem (mark while_word) a b c e f g h = absurd (c refl)
+no_start_lem (mark do_word) a b c e f g h = refl
+no_start_lem (mark const_word) a b c e f g h = refl
+no_start_lem (mark var_word) a b c e f g h = refl
+no_start_lem (mark procedure_word) a b c e f g h = refl
+no_start_lem (mark program_word) a b c e f g h = refl
+no_start_lem (mark begin_word) a b c e f g h = absurd (f refl)
+no_start_lem (mark end_word) a b c e f g h = refl
+no_start_lem (mark call_word) a b c e f g h = absurd (e refl)
+no_start_lem (mark read_word) a b c e f g h = absurd (g refl)
+no_start_lem (mark write_word) a b c e f g h = absurd (h refl)
+no_start_lem (mark odd_word) a b c e f g h = refl
+no_start_lem (mark plus_sign) a b c e f g h = refl
+no_start_lem (mark minus_sign) a b c e f g h = refl
+no_start_lem (mark times_sign) a b c e f g h = refl
+no_start_lem (mark divide_sign) a b c e f g h = refl
+no_start_lem (mark equal_sign) a b c e f g h = refl
+no_start_lem (mark less_sign) a b c e f g h = refl
+no_start_lem (mark greater_sign) a b c e f g h = refl
+no_start_lem (mark at_most_sign) a b c e f g h = refl
+no_start_lem (mark at_least_sign) a b c e f g h = refl
+no_start_lem (mark unequal_sign) a b c e f g h = refl
+no_start_lem (mark becomes_sign) a b c e f g h = refl
+no_start_lem (mark open_sign) a b c e f g h = refl
+no_start_lem (mark close_sign) a b c e f g h = refl
+no_start_lem (mark semicolon_sign) a b c e f g h = refl
+no_start_lem (mark comma_sign) a b c e f g h = refl
+no_start_lem (name n) a b c e f g h = absurd (a refl)
+no_start_lem (number v) a b c e f g h = refl
 
 -- a choice by what a word starts
 unfoldable begun : (src : List ℕ) (n o : ℕ) → Option Start → Reader (Option Stmt)
@@ -94,14 +90,16 @@ module _ (src : List ℕ) (o : ℕ) where
 
     module _ {c d : Cursor} {v : Seen} (h : Sees src c v) (at : v ≡ At d) where
       -- a token that starts no statement
-      pub stmt_none : OneOf no_start (tag d.token) → {xs : List ℕ} {u : ℕ} → Room src xs u 4 c → Tries P.statement src xs u xs (λ n. stmt src n o) (8 * left c + 3) 8 0 c (Nothing d)
+      pub stmt_none : ((a n : ℕ) → d.token ≡ Identifier a n → ⊥) → (d.token ≡ If → ⊥) → (d.token ≡ While → ⊥) → (d.token ≡ Call → ⊥) → (d.token ≡ Begin → ⊥) → (d.token ≡ Read → ⊥) → (d.token ≡ Write → ⊥) → {xs : List ℕ} {u : ℕ} → Room src xs u 4 c → Tries P.statement src xs u xs (λ n. stmt src n o) (8 * left c + 3) 8 0 c (Nothing d)
       unfolding begun
-      stmt_none i {xs} {u} p =
+      stmt_none no_id no_if no_while no_call no_begin no_read no_write {xs} {u} p =
           nothing (omega (arith, (saw h at p.place p.stands).1.same))
           (by_suc (λ n. (k : Place) → Stands src c k → Quiet some (λ v. v ≡ none) P.statement src xs u xs d (stmt src n o k)) (8 * left c + 3) (omega arith)
           (λ n l k s.
           let y = saw h at k s in
-          let z = no_start_lem y.0 (subst (OneOf no_start) (known src d.token y.0 y.1.means).1 i) in
+          let q = (known src d.token y.0 y.1.means).1 in
+          let off : (n : ℕ) → (n ≡ 30 → ⊥) → (n ≡ 31 → ⊥) → (d.token ≡ plain n → ⊥) → kind_in y.0 ≡ n → ⊥ = λ n a b e z. no_plain d.token n a b e (q ∙ z) in
+          let z = no_start_lem y.0 (λ e. no_identifier d.token no_id (q ∙ e)) (off 0 (λ q. omega (arith, q)) (λ q. omega (arith, q)) no_if) (off 3 (λ q. omega (arith, q)) (λ q. omega (arith, q)) no_while) (off 11 (λ q. omega (arith, q)) (λ q. omega (arith, q)) no_call) (off 9 (λ q. omega (arith, q)) (λ q. omega (arith, q)) no_begin) (off 12 (λ q. omega (arith, q)) (λ q. omega (arith, q)) no_read) (off 13 (λ q. omega (arith, q)) (λ q. omega (arith, q)) no_write) in
           record { value = none; empty = refl; at = k; is = stmt_by n k y.0 none under y.1.looks z; stands = y.1.stands; wrote = wrote_none (omega (arith, p.room)) }))
 
       -- one that starts the statement st

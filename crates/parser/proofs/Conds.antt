@@ -1,10 +1,9 @@
 -- Conditions.
 use mathlib.Core.Path.{◌≡◌, refl, sym, ap, subst, ◌∙◌}
-use mathlib.Core.List.{List, [], ◌∷◌}
+use mathlib.Core.List.{List}
 use mathlib.Core.Option.{Option, none, some}
 use Prim.Native.Nat.{ℕ, suc, ◌+◌, ◌*◌, ◌≤◌}
 use native.Mathlib.Omega.{arith}
-use types.Run.{OneOf, miss}
 use Rattle.numbers.specs.Panel.{token_missing}
 use Rattle.numbers.specs.Arithmetic.{Compare, equal, unequal, less, at_least, greater, at_most}
 use Rattle.lexer.specs.Marks.{if_word, then_word, else_word, while_word, do_word, const_word, var_word, procedure_word, program_word, begin_word, end_word, call_word, read_word, write_word, odd_word, plus_sign, minus_sign, times_sign, divide_sign, equal_sign, less_sign, greater_sign, at_most_sign, at_least_sign, unequal_sign, becomes_sign, open_sign, close_sign, semicolon_sign, comma_sign, place_of, same, listed}
@@ -14,6 +13,7 @@ use Rattle.lexer.specs.Meaning.{sees, meaning}
 use Rattle.lexer.specs.Kinds.{kind_of}
 use Rattle.lexer.specs.Stands.{Stands, taken, past, left}
 use Rattle.lexer.specs.declared.token.Token.{Token}
+use Rattle.lexer.specs.declared.token.Token.TheVariants.{Eq, Ne, Lt, Ge, Gt, Le}
 use Rattle.lexer.specs.declared.cursor.Cursor.{Cursor}
 use Rattle.tree.specs.Tree.{Exp, Cond, is_odd, rel}
 use Rattle.tree.specs.Layout.{member, branch, node_no, odd_kind, comparison_kind, count}
@@ -29,7 +29,7 @@ use Rattle.parser.specs.Parts.{only, operand, condition, comparing, Compares, od
 use Rattle.parser.specs.Written.{Wrote, Seals}
 use Rattle.parser.specs.See.{Sees, why_of}
 use Rattle.parser.specs.Meets.{Safe, Means, Reads}
-use Rattle.parser.proofs.Tokens.{tag, kind_in, known}
+use Rattle.parser.proofs.Tokens.{kind_in, known, no_plain}
 use Rattle.parser.proofs.Seeing.{saw, no_look, next_is, next_is_not}
 use Rattle.parser.proofs.Writing.{wrote_more}
 use Rattle.parser.proofs.Answers.{Refuses, grew, made, Moved}
@@ -39,47 +39,48 @@ use Rattle.parser.proofs.Choices.{next_refused}
 pub compares_to : (t t' : Token) (v : Word) (r : ℕ) → ((src : List ℕ) → meaning src t' ≡ sees (token v)) → r ≡ comparing v → t ≡ t' → Compares t r
 compares_to t t' v r m q e = record { compares = λ src w h. let z : v ≡ w = cc (m src, ap (meaning src) e) in q ∙ ap comparing z }
 
--- the variants that are none
-abbrev pub no_comparison : List ℕ
-no_comparison = 0 ∷ 1 ∷ 2 ∷ 3 ∷ 4 ∷ 5 ∷ 6 ∷ 7 ∷ 8 ∷ 9 ∷ 10 ∷ 11 ∷ 12 ∷ 13 ∷ 14 ∷ 15 ∷ 16 ∷ 17 ∷ 18 ∷ 25 ∷ 26 ∷ 27 ∷ 28 ∷ 29 ∷ 30 ∷ 31 ∷ 32 ∷ 33 ∷ 34 ∷ 35 ∷ []
-
-no_comparison_lem : (w : Word) → OneOf no_comparison (kind_in w) → 0 ≡ comparing w
+-- a word that is none
+no_comparison_lem : (w : Word) → (kind_in w ≡ 19 → ⊥) → (kind_in w ≡ 24 → ⊥) → (kind_in w ≡ 20 → ⊥) → (kind_in w ≡ 23 → ⊥) → (kind_in w ≡ 21 → ⊥) → (kind_in w ≡ 22 → ⊥) → 0 ≡ comparing w
 unfolding kind_in comparing comparison_of listed comparisons same place_of
-no_comparison_lem (mark if_word) h = refl
-no_comparison_lem (mark then_word) h = refl
-no_comparison_lem (mark else_word) h = refl
-no_comparison_lem (mark while_word) h = refl
-no_comparison_lem (mark do_word) h = refl
-no_comparison_lem (mark const_word) h = refl
-no_comparison_lem (mark var_word) h = refl
-no_comparison_lem (mark procedure_word) h = refl
-no_comparison_lem (mark program_word) h = refl
-no_comparison_lem (mark begin_word) h = refl
-no_comparison_lem (mark end_word) h = refl
-no_comparison_lem (mark call_word) h = refl
-no_comparison_lem (mark read_word) h = refl
-no_comparison_lem (mark write_word) h = refl
-no_comparison_lem (mark odd_word) h = refl
-no_comparison_lem (mark plus_sign) h = refl
-no_comparison_lem (mark minus_sign) h = refl
-no_comparison_lem (mark times_sign) h = refl
-no_comparison_lem (mark divide_sign) h = refl
-no_comparison_lem (mark equal_sign) h = absurd (miss no_comparison 19 tt h)
-no_comparison_lem (mark less_sign) h = absurd (miss no_comparison 20 tt h)
-no_comparison_lem (mark greater_sign) h = absurd (miss no_comparison 21 tt h)
-no_comparison_lem (mark at_most_sign) h = absurd (miss no_comparison 22 tt h)
-no_comparison_lem (mark at_least_sign) h = absurd (miss no_comparison 23 tt h)
-no_comparison_lem (mark unequal_sign) h = absurd (miss no_comparison 24 tt h)
-no_comparison_lem (mark becomes_sign) h = refl
-no_comparison_lem (mark open_sign) h = refl
-no_comparison_lem (mark close_sign) h = refl
-no_comparison_lem (mark semicolon_sign) h = refl
-no_comparison_lem (mark comma_sign) h = refl
-no_comparison_lem (name n) h = refl
-no_comparison_lem (number v) h = refl
+no_comparison_lem (mark if_word) g h i j k l = refl
+no_comparison_lem (mark then_word) g h i j k l = refl
+no_comparison_lem (mark else_word) g h i j k l = refl
+no_comparison_lem (mark while_word) g h i j k l = refl
+no_comparison_lem (mark do_word) g h i j k l = refl
+no_comparison_lem (mark const_word) g h i j k l = refl
+no_comparison_lem (mark var_word) g h i j k l = refl
+no_comparison_lem (mark procedure_word) g h i j k l = refl
+no_comparison_lem (mark program_word) g h i j k l = refl
+no_comparison_lem (mark begin_word) g h i j k l = refl
+no_comparison_lem (mark end_word) g h i j k l = refl
+no_comparison_lem (mark call_word) g h i j k l = refl
+no_comparison_lem (mark read_word) g h i j k l = refl
+no_comparison_lem (mark write_word) g h i j k l = refl
+no_comparison_lem (mark odd_word) g h i j k l = refl
+no_comparison_lem (mark plus_sign) g h i j k l = refl
+no_comparison_lem (mark minus_sign) g h i j k l = refl
+no_comparison_lem (mark times_sign) g h i j k l = refl
+no_comparison_lem (mark divide_sign) g h i j k l = refl
+no_comparison_lem (mark equal_sign) g h i j k l = absurd (g refl)
+no_comparison_lem (mark less_sign) g h i j k l = absurd (i refl)
+no_comparison_lem (mark greater_sign) g h i j k l = absurd (k refl)
+no_comparison_lem (mark at_most_sign) g h i j k l = absurd (l refl)
+no_comparison_lem (mark at_least_sign) g h i j k l = absurd (j refl)
+no_comparison_lem (mark unequal_sign) g h i j k l = absurd (h refl)
+no_comparison_lem (mark becomes_sign) g h i j k l = refl
+no_comparison_lem (mark open_sign) g h i j k l = refl
+no_comparison_lem (mark close_sign) g h i j k l = refl
+no_comparison_lem (mark semicolon_sign) g h i j k l = refl
+no_comparison_lem (mark comma_sign) g h i j k l = refl
+no_comparison_lem (name n) g h i j k l = refl
+no_comparison_lem (number v) g h i j k l = refl
 
-pub compares_none : (t : Token) → OneOf no_comparison (tag t) → Compares t 0
-compares_none t h = record { compares = λ src w e. no_comparison_lem w (subst (OneOf no_comparison) (known src t w e).1 h) }
+pub compares_none : (t : Token) → (t ≡ Eq → ⊥) → (t ≡ Ne → ⊥) → (t ≡ Lt → ⊥) → (t ≡ Ge → ⊥) → (t ≡ Gt → ⊥) → (t ≡ Le → ⊥) → Compares t 0
+compares_none t g h i j k l = record {
+  compares = λ src w e.
+      let y = (known src t w e).1 in
+      no_comparison_lem w (λ z. no_plain t 19 (λ q. omega (arith, q)) (λ q. omega (arith, q)) g (y ∙ z)) (λ z. no_plain t 24 (λ q. omega (arith, q)) (λ q. omega (arith, q)) h (y ∙ z)) (λ z. no_plain t 20 (λ q. omega (arith, q)) (λ q. omega (arith, q)) i (y ∙ z)) (λ z. no_plain t 23 (λ q. omega (arith, q)) (λ q. omega (arith, q)) j (y ∙ z)) (λ z. no_plain t 21 (λ q. omega (arith, q)) (λ q. omega (arith, q)) k (y ∙ z)) (λ z. no_plain t 22 (λ q. omega (arith, q)) (λ q. omega (arith, q)) l (y ∙ z));
+}
 
 -- the comparison that a number says
 by_option : (x : Option Compare) (n : ℕ) → n ≡ elim x [ none ↦ 0 | some r ↦ compare_no r ] → (n ≡ 0 → ⊥) → (r : Compare) × ((x ≡ some r) × (n ≡ compare_no r))

@@ -5,7 +5,6 @@ use mathlib.Core.List.{List, ◌++◌}
 use Prim.Native.Nat.{ℕ, suc, ◌+◌, ◌*◌, ◌≤◌, ◌<◌}
 use native.Mathlib.Omega.{arith}
 use lib.ListN.{length, take as front}
-use types.Run.{OneOf}
 use Rattle.numbers.specs.Panel.{token_missing, too_many_open}
 use Rattle.numbers.specs.Limits.{max_open}
 use Rattle.numbers.specs.Arithmetic.{add, sub, mul, div}
@@ -30,7 +29,7 @@ use Rattle.parser.specs.Parts.{operand, negated, signed, bracketed}
 use Rattle.parser.specs.Written.{Seals}
 use Rattle.parser.specs.See.{Sees, Wants, why_of}
 use Rattle.parser.specs.Meets.{Safe, Made, Means, Reads}
-use Rattle.parser.proofs.Tokens.{tag, known, no_factor, no_factor_lem}
+use Rattle.parser.proofs.Tokens.{known, no_factor_lem, no_identifier, no_integer, no_plain}
 use Rattle.parser.proofs.Seeing.{choose, saw, no_look, took, no_mark, next_is, next_is_not, enters, enters_not}
 use Rattle.parser.proofs.Leaves.{looked_at, literal_of_lem, wrote_name, wrote_number, leaf_grew}
 use Rattle.parser.proofs.Chains.{Chaining}
@@ -170,12 +169,13 @@ module _ (src : List ℕ) (o : ℕ) where
 
   module _ {c d : Cursor} {v : Seen} (h : Sees src c v) (at : v ≡ At d) where
     -- a token that starts no factor
-    pub factor_other : OneOf no_factor (tag d.token) → Refuses src (λ n. factor src n o) (8 * left c + 1) c token_missing
-    factor_other i =
+    pub factor_other : ((a n : ℕ) → d.token ≡ Identifier a n → ⊥) → ((v : ℕ) → d.token ≡ Integer v → ⊥) → (d.token ≡ ParL → ⊥) → Refuses src (λ n. factor src n o) (8 * left c + 1) c token_missing
+    factor_other f g i =
         by_suc (λ x. (k : Place) → Stands src c k → factor src x o k ≡ refuse token_missing) (8 * left c + 1) (omega arith)
         (λ x l k s.
         let p = saw h at k s in
-        let z = no_factor_lem p.0 (subst (OneOf no_factor) (known src d.token p.0 p.1.means).1 i) in
+        let y = (known src d.token p.0 p.1.means).1 in
+        let z = no_factor_lem p.0 (λ e. no_identifier d.token f (y ∙ e)) (λ e. no_integer d.token g (y ∙ e)) (λ e. no_plain d.token 26 (λ q. omega (arith, q)) (λ q. omega (arith, q)) i (y ∙ e)) in
         at_other z.0 z.1.1 x k (subst (λ (w : Word). look src k ≡ got w k) z.1.0 p.1.looks))
 
     -- `(`

@@ -6,7 +6,6 @@ use mathlib.Core.Option.{Option, none, some}
 use Prim.Native.Nat.{ℕ, suc, ◌+◌, ◌*◌, ◌≤◌, ◌<◌}
 use native.Mathlib.Omega.{arith}
 use lib.ListN.{length, take as up_to}
-use types.Run.{miss}
 use Rattle.numbers.specs.Panel.{too_many_open}
 use Rattle.numbers.specs.Limits.{max_open}
 use Rattle.lexer.specs.Marks.{procedure_word, program_word, open_sign, semicolon_sign, place_of}
@@ -417,7 +416,7 @@ module _ (src : List ℕ) where
                 let b = z.means x (omega arith) k (saw h at k s).1.stands in
                 record { value = b.value; at = b.at; is = inner_there i x k s ∙ ap (then _) b.is; stands = b.stands; wrote = b.wrote });
           }
-          inner_up (Nothing t) z y = absurd (miss (0 ∷ 2 ∷ []) 1 tt y)
+          inner_up (Nothing t) z y = absurd (y t refl)
           inner_up (Refused w) z y =
               refused
               (by_suc (λ x. (k : Place) → Stands src c k → inner_of src x o k ≡ refuse w) (8 * left c + 2) (omega arith)

@@ -1,9 +1,8 @@
 -- A name or a literal that has to be there.
 use mathlib.Core.Path.{◌≡◌, refl, ap, ◌∙◌}
-use mathlib.Core.List.{List, [], ◌∷◌, ◌++◌}
+use mathlib.Core.List.{List, ◌++◌}
 use Prim.Native.Nat.{ℕ, suc, ◌+◌, ◌≤◌}
 use lib.ListN.{length, take as front}
-use types.Run.{OneOf, miss}
 use Rattle.numbers.specs.Panel.{token_missing}
 use Rattle.lexer.specs.Tokens.{Token as Word, mark, name, number}
 use Rattle.lexer.specs.Cursor.{Cursor as Place, refuse, take}
@@ -20,30 +19,23 @@ use Rattle.grammar.specs.Reader.{then, name_in, number_in, taking, want_name, wa
 use Rattle.parser.specs.Parts.{only}
 use Rattle.parser.specs.See.{Sees, why_of}
 use Rattle.parser.specs.Meets.{Safe, Means, Reads}
-use Rattle.parser.proofs.Tokens.{tag, kind_in, known}
+use Rattle.parser.proofs.Tokens.{kind_in, known, no_identifier, no_integer}
 use Rattle.parser.proofs.Seeing.{saw, no_look}
 use Rattle.parser.proofs.Leaves.{looked_at, literal_of_lem, wrote_name, wrote_number, leaf_grew}
 use Rattle.parser.proofs.Answers.{Refuses}
 
--- the variants that are no names, and those that are no literals
-abbrev pub no_names : List ℕ
-no_names = 0 ∷ 1 ∷ 2 ∷ 3 ∷ 4 ∷ 5 ∷ 6 ∷ 7 ∷ 8 ∷ 9 ∷ 10 ∷ 11 ∷ 12 ∷ 13 ∷ 14 ∷ 15 ∷ 16 ∷ 17 ∷ 18 ∷ 19 ∷ 20 ∷ 21 ∷ 22 ∷ 23 ∷ 24 ∷ 25 ∷ 26 ∷ 27 ∷ 28 ∷ 29 ∷ 31 ∷ 32 ∷ 33 ∷ 34 ∷ 35 ∷ []
-
-abbrev pub no_numbers : List ℕ
-no_numbers = 0 ∷ 1 ∷ 2 ∷ 3 ∷ 4 ∷ 5 ∷ 6 ∷ 7 ∷ 8 ∷ 9 ∷ 10 ∷ 11 ∷ 12 ∷ 13 ∷ 14 ∷ 15 ∷ 16 ∷ 17 ∷ 18 ∷ 19 ∷ 20 ∷ 21 ∷ 22 ∷ 23 ∷ 24 ∷ 25 ∷ 26 ∷ 27 ∷ 28 ∷ 29 ∷ 30 ∷ 32 ∷ 33 ∷ 34 ∷ 35 ∷ []
-
 module _ (src : List ℕ) (k : Place) where
-  no_name : (w : Word) → OneOf no_names (kind_in w) → taking src (name_in w) k ≡ refuse token_missing
+  no_name : (w : Word) → (kind_in w ≡ 30 → ⊥) → taking src (name_in w) k ≡ refuse token_missing
   unfolding taking name_in kind_in
   no_name (mark m) h = refl
-  no_name (name n) h = absurd (miss no_names 30 tt h)
+  no_name (name n) h = absurd (h refl)
   no_name (number v) h = refl
 
-  no_number : (w : Word) → OneOf no_numbers (kind_in w) → taking src (number_in w) k ≡ refuse token_missing
+  no_number : (w : Word) → (kind_in w ≡ 31 → ⊥) → taking src (number_in w) k ≡ refuse token_missing
   unfolding taking number_in kind_in
   no_number (mark m) h = refl
   no_number (name n) h = refl
-  no_number (number v) h = absurd (miss no_numbers 31 tt h)
+  no_number (number v) h = absurd (h refl)
 
 module _ {src : List ℕ} {c : Cursor} {v : Seen} (h : Sees src c v) where
   -- the look at it is refused
@@ -57,17 +49,17 @@ module _ {src : List ℕ} {c : Cursor} {v : Seen} (h : Sees src c v) where
 
   module _ {d : Cursor} (at : v ≡ At d) where
     -- it is another token
-    pub name_other : {m : ℕ} → OneOf no_names (tag d.token) → Refuses src (λ n. want_name src) m c token_missing
+    pub name_other : {m : ℕ} → ((a n : ℕ) → d.token ≡ Identifier a n → ⊥) → Refuses src (λ n. want_name src) m c token_missing
     unfolding want_name
     name_other o n l k s =
         let p = saw h at k s in
-        ap (then _) p.1.looks ∙ no_name src k p.0 (rw (known src d.token p.0 p.1.means).1 at o)
+        ap (then _) p.1.looks ∙ no_name src k p.0 (λ e. no_identifier d.token o ((known src d.token p.0 p.1.means).1 ∙ e))
 
-    pub number_other : {m : ℕ} → OneOf no_numbers (tag d.token) → Refuses src (λ n. want_number src) m c token_missing
+    pub number_other : {m : ℕ} → ((v : ℕ) → d.token ≡ Integer v → ⊥) → Refuses src (λ n. want_number src) m c token_missing
     unfolding want_number
     number_other o n l k s =
         let p = saw h at k s in
-        ap (then _) p.1.looks ∙ no_number src k p.0 (rw (known src d.token p.0 p.1.means).1 at o)
+        ap (then _) p.1.looks ∙ no_number src k p.0 (λ e. no_integer d.token o ((known src d.token p.0 p.1.means).1 ∙ e))
 
     -- it is there, and its leaf was written
     module _ {t : Cursor} (took : t ≡ taken d) (fewer : suc (left t) ≡ left c) {xs ys : List ℕ} {u e : ℕ} (fits : u ≤ length xs) (ends : e ≡ u + 4) where

@@ -1,12 +1,13 @@
--- The tokens of the code and the words of the definitions: which kind, and which variant, a word is. A `_` of a `match` tells some variants' numbers.
-use mathlib.Core.Path.{◌≡◌, refl, sym, ap}
+-- The tokens of the code and the words of the definitions: which kind, and which variant, a word is. A `_` of a `match` tells which variants a token is not.
+use mathlib.Core.Path.{◌≡◌, refl, sym, ap, ◌∙◌}
 use mathlib.Core.Bool.{true, false}
+use mathlib.Core.Logic.{◌⊎◌, inl, inr}
 use mathlib.Core.List.{List, [], ◌∷◌}
 use Prim.Native.Nat.{ℕ, ◌≤◌, ◌<◌}
 use native.Mathlib.Omega.{arith}
 use lib.Dec.{eqb, ltb}
+use lib.ListN.{get_or}
 use borrow.Author.Tests.{ne_eqb, ltb-true}
-use types.Run.{OneOf, miss}
 use denote.Enum.Declared.{tag_of}
 use Rattle.lexer.specs.contracts.token.Token as Tok
 use Rattle.lexer.specs.Marks.{Mark, if_word, then_word, else_word, while_word, do_word, const_word, var_word, procedure_word, program_word, begin_word, end_word, call_word, read_word, write_word, odd_word, plus_sign, minus_sign, times_sign, divide_sign, equal_sign, less_sign, greater_sign, at_most_sign, at_least_sign, unequal_sign, becomes_sign, open_sign, close_sign, semicolon_sign, comma_sign, place_of, same}
@@ -117,47 +118,112 @@ is_mark_lem m (mark k) = refl
 is_mark_lem m (name n) = sym (no_mark 30 (omega arith) m)
 is_mark_lem m (number v) = sym (no_mark 31 (omega arith) m)
 
--- the variants that are looked at without a refusal
-abbrev pub sound : List ℕ
-sound = 0 ∷ 1 ∷ 2 ∷ 3 ∷ 4 ∷ 5 ∷ 6 ∷ 7 ∷ 8 ∷ 9 ∷ 10 ∷ 11 ∷ 12 ∷ 13 ∷ 14 ∷ 15 ∷ 16 ∷ 17 ∷ 18 ∷ 19 ∷ 20 ∷ 21 ∷ 22 ∷ 23 ∷ 24 ∷ 25 ∷ 26 ∷ 27 ∷ 28 ∷ 29 ∷ 30 ∷ 31 ∷ []
+-- the variant without parts of a number
+abbrev pub plain : ℕ → Token
+plain n = get_or (If ∷ Then ∷ Else ∷ While ∷ Do ∷ Const ∷ Var ∷ Procedure ∷ Program ∷ Begin ∷ End ∷ Call ∷ Read ∷ Write ∷ Odd ∷ Add ∷ Sub ∷ Mul ∷ Div ∷ Eq ∷ Lt ∷ Gt ∷ Le ∷ Ge ∷ Ne ∷ EqSign ∷ ParL ∷ ParR ∷ Semicolon ∷ Comma ∷ EndOfText ∷ EndOfText ∷ LexicalError ∷ TooBig ∷ TooMany ∷ []) n EndOfText
 
-pub sound_token : (t : Token) → OneOf sound (tag t) → (src : List ℕ) → refusal_in (meaning src t) ≡ 0
-sound_token If h src = refl
-sound_token Then h src = refl
-sound_token Else h src = refl
-sound_token While h src = refl
-sound_token Do h src = refl
-sound_token Const h src = refl
-sound_token Var h src = refl
-sound_token Procedure h src = refl
-sound_token Program h src = refl
-sound_token Begin h src = refl
-sound_token End h src = refl
-sound_token Call h src = refl
-sound_token Read h src = refl
-sound_token Write h src = refl
-sound_token Odd h src = refl
-sound_token Add h src = refl
-sound_token Sub h src = refl
-sound_token Mul h src = refl
-sound_token Div h src = refl
-sound_token Eq h src = refl
-sound_token Lt h src = refl
-sound_token Gt h src = refl
-sound_token Le h src = refl
-sound_token Ge h src = refl
-sound_token Ne h src = refl
-sound_token EqSign h src = refl
-sound_token ParL h src = refl
-sound_token ParR h src = refl
-sound_token Semicolon h src = refl
-sound_token Comma h src = refl
-sound_token (Identifier at n) h src = refl
-sound_token (Integer v) h src = refl
-sound_token LexicalError h src = absurd (miss sound 32 tt h)
-sound_token TooBig h src = absurd (miss sound 33 tt h)
-sound_token TooMany h src = absurd (miss sound 34 tt h)
-sound_token EndOfText h src = absurd (miss sound 35 tt h)
+-- a token has no parts, or is a name or a number
+sorted : (t : Token) → (t ≡ plain (tag t)) ⊎ (((a : ℕ) × ((n : ℕ) × (t ≡ Identifier a n))) ⊎ ((v : ℕ) × (t ≡ Integer v)))
+sorted If = inl refl
+sorted Then = inl refl
+sorted Else = inl refl
+sorted While = inl refl
+sorted Do = inl refl
+sorted Const = inl refl
+sorted Var = inl refl
+sorted Procedure = inl refl
+sorted Program = inl refl
+sorted Begin = inl refl
+sorted End = inl refl
+sorted Call = inl refl
+sorted Read = inl refl
+sorted Write = inl refl
+sorted Odd = inl refl
+sorted Add = inl refl
+sorted Sub = inl refl
+sorted Mul = inl refl
+sorted Div = inl refl
+sorted Eq = inl refl
+sorted Lt = inl refl
+sorted Gt = inl refl
+sorted Le = inl refl
+sorted Ge = inl refl
+sorted Ne = inl refl
+sorted EqSign = inl refl
+sorted ParL = inl refl
+sorted ParR = inl refl
+sorted Semicolon = inl refl
+sorted Comma = inl refl
+sorted (Identifier a n) = inr (inl (a, (n, refl)))
+sorted (Integer v) = inr (inr (v, refl))
+sorted LexicalError = inl refl
+sorted TooBig = inl refl
+sorted TooMany = inl refl
+sorted EndOfText = inl refl
+
+-- a token that is none of a variant's has not its number
+pub no_identifier : (t : Token) → ((a n : ℕ) → t ≡ Identifier a n → ⊥) → tag t ≡ 30 → ⊥
+no_identifier t h e =
+    elim (sorted t) [
+      | inl p ↦ absurd (omega (arith, ap tag (rw e at p), e))
+      | inr (inl p) ↦ h p.0 p.1.0 p.1.1
+      | inr (inr p) ↦ absurd (omega (arith, ap tag p.1, e))
+    ]
+
+pub no_integer : (t : Token) → ((v : ℕ) → t ≡ Integer v → ⊥) → tag t ≡ 31 → ⊥
+no_integer t h e =
+    elim (sorted t) [
+      | inl p ↦ absurd (omega (arith, ap tag (rw e at p), e))
+      | inr (inl p) ↦ absurd (omega (arith, ap tag p.1.1, e))
+      | inr (inr p) ↦ h p.0 p.1
+    ]
+
+pub no_plain : (t : Token) (n : ℕ) → (n ≡ 30 → ⊥) → (n ≡ 31 → ⊥) → (t ≡ plain n → ⊥) → tag t ≡ n → ⊥
+no_plain t n a b h e =
+    elim (sorted t) [
+      | inl p ↦ h (rw e at p)
+      | inr (inl p) ↦ a (sym e ∙ ap tag p.1.1)
+      | inr (inr p) ↦ b (sym e ∙ ap tag p.1)
+    ]
+
+-- a token that is looked at without a refusal
+pub sound_token : (t : Token) → (t ≡ LexicalError → ⊥) → (t ≡ TooBig → ⊥) → (t ≡ TooMany → ⊥) → (t ≡ EndOfText → ⊥) → (src : List ℕ) → refusal_in (meaning src t) ≡ 0
+sound_token If g h i j src = refl
+sound_token Then g h i j src = refl
+sound_token Else g h i j src = refl
+sound_token While g h i j src = refl
+sound_token Do g h i j src = refl
+sound_token Const g h i j src = refl
+sound_token Var g h i j src = refl
+sound_token Procedure g h i j src = refl
+sound_token Program g h i j src = refl
+sound_token Begin g h i j src = refl
+sound_token End g h i j src = refl
+sound_token Call g h i j src = refl
+sound_token Read g h i j src = refl
+sound_token Write g h i j src = refl
+sound_token Odd g h i j src = refl
+sound_token Add g h i j src = refl
+sound_token Sub g h i j src = refl
+sound_token Mul g h i j src = refl
+sound_token Div g h i j src = refl
+sound_token Eq g h i j src = refl
+sound_token Lt g h i j src = refl
+sound_token Gt g h i j src = refl
+sound_token Le g h i j src = refl
+sound_token Ge g h i j src = refl
+sound_token Ne g h i j src = refl
+sound_token EqSign g h i j src = refl
+sound_token ParL g h i j src = refl
+sound_token ParR g h i j src = refl
+sound_token Semicolon g h i j src = refl
+sound_token Comma g h i j src = refl
+sound_token (Identifier at n) g h i j src = refl
+sound_token (Integer v) g h i j src = refl
+sound_token LexicalError g h i j src = absurd (g refl)
+sound_token TooBig g h i j src = absurd (h refl)
+sound_token TooMany g h i j src = absurd (i refl)
+sound_token EndOfText g h i j src = absurd (j refl)
 
 -- what is seen without a refusal is a word
 pub shown : (s : Sight) → refusal_in s ≡ 0 → (w : Word) × (s ≡ sees (token w))
@@ -175,42 +241,38 @@ refused_as (sees too_big) k e = refl
 refused_as (sees end_of_text) k e = refl
 refused_as too_many k e = refl
 
--- the variants that start no factor
-abbrev pub no_factor : List ℕ
-no_factor = 0 ∷ 1 ∷ 2 ∷ 3 ∷ 4 ∷ 5 ∷ 6 ∷ 7 ∷ 8 ∷ 9 ∷ 10 ∷ 11 ∷ 12 ∷ 13 ∷ 14 ∷ 15 ∷ 16 ∷ 17 ∷ 18 ∷ 19 ∷ 20 ∷ 21 ∷ 22 ∷ 23 ∷ 24 ∷ 25 ∷ 27 ∷ 28 ∷ 29 ∷ 32 ∷ 33 ∷ 34 ∷ 35 ∷ []
-
--- a word of such a variant is a mark other than `(`
-pub no_factor_lem : (w : Word) → OneOf no_factor (kind_in w) → (m : Mark) × ((w ≡ mark m) × (same m open_sign ≡ false))
+-- a word that is no name, no number and no `(` is another mark
+pub no_factor_lem : (w : Word) → (kind_in w ≡ 30 → ⊥) → (kind_in w ≡ 31 → ⊥) → (kind_in w ≡ 26 → ⊥) → (m : Mark) × ((w ≡ mark m) × (same m open_sign ≡ false))
 unfolding kind_in same place_of
-no_factor_lem (mark if_word) h = (if_word, (refl, refl))
-no_factor_lem (mark then_word) h = (then_word, (refl, refl))
-no_factor_lem (mark else_word) h = (else_word, (refl, refl))
-no_factor_lem (mark while_word) h = (while_word, (refl, refl))
-no_factor_lem (mark do_word) h = (do_word, (refl, refl))
-no_factor_lem (mark const_word) h = (const_word, (refl, refl))
-no_factor_lem (mark var_word) h = (var_word, (refl, refl))
-no_factor_lem (mark procedure_word) h = (procedure_word, (refl, refl))
-no_factor_lem (mark program_word) h = (program_word, (refl, refl))
-no_factor_lem (mark begin_word) h = (begin_word, (refl, refl))
-no_factor_lem (mark end_word) h = (end_word, (refl, refl))
-no_factor_lem (mark call_word) h = (call_word, (refl, refl))
-no_factor_lem (mark read_word) h = (read_word, (refl, refl))
-no_factor_lem (mark write_word) h = (write_word, (refl, refl))
-no_factor_lem (mark odd_word) h = (odd_word, (refl, refl))
-no_factor_lem (mark plus_sign) h = (plus_sign, (refl, refl))
-no_factor_lem (mark minus_sign) h = (minus_sign, (refl, refl))
-no_factor_lem (mark times_sign) h = (times_sign, (refl, refl))
-no_factor_lem (mark divide_sign) h = (divide_sign, (refl, refl))
-no_factor_lem (mark equal_sign) h = (equal_sign, (refl, refl))
-no_factor_lem (mark less_sign) h = (less_sign, (refl, refl))
-no_factor_lem (mark greater_sign) h = (greater_sign, (refl, refl))
-no_factor_lem (mark at_most_sign) h = (at_most_sign, (refl, refl))
-no_factor_lem (mark at_least_sign) h = (at_least_sign, (refl, refl))
-no_factor_lem (mark unequal_sign) h = (unequal_sign, (refl, refl))
-no_factor_lem (mark becomes_sign) h = (becomes_sign, (refl, refl))
-no_factor_lem (mark open_sign) h = absurd (miss no_factor 26 tt h)
-no_factor_lem (mark close_sign) h = (close_sign, (refl, refl))
-no_factor_lem (mark semicolon_sign) h = (semicolon_sign, (refl, refl))
-no_factor_lem (mark comma_sign) h = (comma_sign, (refl, refl))
-no_factor_lem (name n) h = absurd (miss no_factor 30 tt h)
-no_factor_lem (number v) h = absurd (miss no_factor 31 tt h)
+no_factor_lem (mark if_word) g h i = (if_word, (refl, refl))
+no_factor_lem (mark then_word) g h i = (then_word, (refl, refl))
+no_factor_lem (mark else_word) g h i = (else_word, (refl, refl))
+no_factor_lem (mark while_word) g h i = (while_word, (refl, refl))
+no_factor_lem (mark do_word) g h i = (do_word, (refl, refl))
+no_factor_lem (mark const_word) g h i = (const_word, (refl, refl))
+no_factor_lem (mark var_word) g h i = (var_word, (refl, refl))
+no_factor_lem (mark procedure_word) g h i = (procedure_word, (refl, refl))
+no_factor_lem (mark program_word) g h i = (program_word, (refl, refl))
+no_factor_lem (mark begin_word) g h i = (begin_word, (refl, refl))
+no_factor_lem (mark end_word) g h i = (end_word, (refl, refl))
+no_factor_lem (mark call_word) g h i = (call_word, (refl, refl))
+no_factor_lem (mark read_word) g h i = (read_word, (refl, refl))
+no_factor_lem (mark write_word) g h i = (write_word, (refl, refl))
+no_factor_lem (mark odd_word) g h i = (odd_word, (refl, refl))
+no_factor_lem (mark plus_sign) g h i = (plus_sign, (refl, refl))
+no_factor_lem (mark minus_sign) g h i = (minus_sign, (refl, refl))
+no_factor_lem (mark times_sign) g h i = (times_sign, (refl, refl))
+no_factor_lem (mark divide_sign) g h i = (divide_sign, (refl, refl))
+no_factor_lem (mark equal_sign) g h i = (equal_sign, (refl, refl))
+no_factor_lem (mark less_sign) g h i = (less_sign, (refl, refl))
+no_factor_lem (mark greater_sign) g h i = (greater_sign, (refl, refl))
+no_factor_lem (mark at_most_sign) g h i = (at_most_sign, (refl, refl))
+no_factor_lem (mark at_least_sign) g h i = (at_least_sign, (refl, refl))
+no_factor_lem (mark unequal_sign) g h i = (unequal_sign, (refl, refl))
+no_factor_lem (mark becomes_sign) g h i = (becomes_sign, (refl, refl))
+no_factor_lem (mark open_sign) g h i = absurd (i refl)
+no_factor_lem (mark close_sign) g h i = (close_sign, (refl, refl))
+no_factor_lem (mark semicolon_sign) g h i = (semicolon_sign, (refl, refl))
+no_factor_lem (mark comma_sign) g h i = (comma_sign, (refl, refl))
+no_factor_lem (name n) g h i = absurd (g refl)
+no_factor_lem (number v) g h i = absurd (h refl)

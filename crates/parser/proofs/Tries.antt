@@ -1,11 +1,9 @@
 -- Answers of readers that may yield nothing: what a caller learns of each case, and how a refusal or nothing goes up.
-use mathlib.Core.Path.{◌≡◌}
-use mathlib.Core.List.{List, [], ◌∷◌}
+use mathlib.Core.Path.{◌≡◌, refl}
+use mathlib.Core.List.{List}
 use Prim.Native.Nat.{ℕ, ◌+◌, ◌≤◌}
 use native.Mathlib.Omega.{arith}
 use lib.ListN.{length}
-use types.Run.{OneOf, miss}
-use denote.Enum.Declared.{tag_of}
 use Rattle.lexer.specs.Cursor.{Cursor as Place, Reader}
 use Rattle.lexer.specs.Stands.{Stands, left}
 use Rattle.lexer.specs.declared.cursor.Cursor.{Cursor}
@@ -14,10 +12,10 @@ use Rattle.parser.specs.declared.answer.Answer.{Answer}
 use Rattle.parser.specs.declared.answer.Answer.TheVariants.{Node, Nothing, Refused}
 use Rattle.parser.specs.Meets.{Room, Safe, Quiet, Means, Meets}
 use Rattle.parser.proofs.Answers.{NoNode, Refuses, refused}
-use Rattle.parser.specs.contracts.answer.Answer as Ansr
 
+-- the answer is not nothing
 abbrev pub NoQuiet : Answer → Type 0
-NoQuiet r = OneOf (0 ∷ 2 ∷ []) (tag_of Ansr.the_type r)
+NoQuiet r = (d : Cursor) → r ≡ Nothing d → ⊥
 
 module _ {A B : Type 0} {yes : A → B} {no : B → Type 0} {nodes : A → Nodes} {src xs : List ℕ} {u : ℕ} {ys : List ℕ} {f : ℕ → Reader B} {m spare debt : ℕ} {c : Cursor} where
   module _ {r : Answer} (h : Meets yes no nodes src xs u ys f m spare debt c r) {d : Cursor} (q : r ≡ Nothing d) where
@@ -40,8 +38,8 @@ module _ {A B : Type 0} {yes : A → B} {no : B → Type 0} {nodes : A → Nodes
       → (r : Answer) → Meets yes no nodes src xs u ys f m spare debt c r → NoNode r → NoQuiet r → ((w : ℕ) → Refuses src f m c w → Refuses src f' m' c' w)
       → Meets yes' no' nodes' src xs' u' ys f' m' spare' debt' c' r
   unfolding Means
-  stopped (Node e d) h o i g = absurd (miss (1 ∷ 2 ∷ []) 0 tt o)
-  stopped (Nothing d) h o i g = absurd (miss (0 ∷ 2 ∷ []) 1 tt i)
+  stopped (Node e d) h o i g = absurd (o e d refl)
+  stopped (Nothing d) h o i g = absurd (i d refl)
   stopped (Refused w) h o i g = refused (g w h.means)
 
 -- the definition f yields nothing from where the cursor c stands; the cursor d stands after that, and what was used stands as it was
@@ -62,6 +60,6 @@ module _ {A B A' B' : Type 0} {yes : A → B} {no : B → Type 0} {nodes : A →
       → ((d : Cursor) → Quietly yes no nodes src xs u ys f m c d → Quietly yes' no' nodes' src xs' u' ys f' m' c' d)
       → Meets yes' no' nodes' src xs' u' ys f' m' spare' debt' c' r
   unfolding Safe Means
-  gone_up (Node e d) h o l g q = absurd (miss (1 ∷ 2 ∷ []) 0 tt o)
+  gone_up (Node e d) h o l g q = absurd (o e d refl)
   gone_up (Nothing d) h o l g q = nothing (omega (arith, h.safe)) (q d h.means)
   gone_up (Refused w) h o l g q = refused (g w h.means)

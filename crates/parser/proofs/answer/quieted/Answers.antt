@@ -1,0 +1,16 @@
+-- `answer::quieted` meets its contract.
+use mathlib.Core.Path.{sym, ap}
+use Rattle.parser.specs.Quiet.{quieted_of}
+use Rattle.parser.proofs.answer.quieted.Goals as goal
+
+pub returns-in-Node : goal.returns-in-Node
+returns-in-Node c =
+    sym (ap quieted_of c.in-Node.is)
+
+pub returns-in-Nothing : goal.returns-in-Nothing
+returns-in-Nothing c =
+    sym (ap quieted_of c.in-Nothing.is)
+
+pub returns-in-Refused : goal.returns-in-Refused
+returns-in-Refused c =
+    sym (ap quieted_of c.in-Refused.is)

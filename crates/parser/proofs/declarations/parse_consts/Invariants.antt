@@ -1,0 +1,13 @@
+-- `declarations::parse_consts` meets its contract.
+use Rattle.lexer.specs.Stands.{left}
+use Rattle.tree.specs.Nodes.{const_node, list_nodes}
+use Rattle.grammar.specs.Grammar.{const_def}
+use Rattle.parser.proofs.Loops.{Going}
+use Rattle.parser.proofs.Commas.{rest}
+use Rattle.parser.proofs.declarations.parse_consts.Given as goal
+
+abbrev pub invariant-loop-e : goal.invariant-loop-e
+invariant-loop-e l = Going (rest l.text (const_def l.text) const_node) (list_nodes const_node) l.text 1 l.initial.tree l.initial.end 0 l.initial.c l.tree l.end l.count l.c
+
+abbrev pub decreases-loop-e : goal.decreases-loop-e
+decreases-loop-e l = left l.c
