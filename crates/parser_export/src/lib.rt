@@ -1,4 +1,6 @@
 // The parser for C and Rust, as bench/run-parse links it: 0 where there is a tree, or the number of the refusal.
+#![tactic(auto)]
+
 ghost use Rattle.std.specs.Prelude.{◌≡◌};
 ghost use Rattle.parser_export.specs.Exported.{number_of, Exports};
 

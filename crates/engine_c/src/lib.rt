@@ -1,4 +1,6 @@
-// The public entries for C and Rust, as include/loopgarret.h declares them.
+// The public entries for C and Rust, as include/loopgarret.h declares them: the static library.
+#![tactic(auto)]
+
 ghost use Rattle.std.specs.Prelude.{◌≡◌};
 ghost use Rattle.listing.specs.Outcome.{list_outcome};
 ghost use Rattle.listing.specs.Answers.{listed_of};
@@ -8,8 +10,7 @@ ghost use Rattle.outcomes.specs.Outcomes.{compile_outcome, walk_outcome};
 ghost use Rattle.engine.specs.Entries.{compiled_of};
 ghost use Rattle.engine.specs.Walking.{walked_of};
 
-use crate::entries::{Compiled, compile};
-use crate::walks::walk;
+use engine::{Compiled, compile, walk};
 use listing::Listed;
 use machine::Ended;
 
