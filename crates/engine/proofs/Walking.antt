@@ -15,7 +15,7 @@ use Rattle.numbers.specs.Lent.{holds, onto, filled}
 use Rattle.tree.specs.Tree.{Procs, no_procs, proc, Block}
 use Rattle.tree.specs.Layout.{enc, Stands}
 use Rattle.tree.specs.Nodes.{block_node}
-use Rattle.grammar.specs.Grammar.{Parsed, tree, parse}
+use Rattle.grammar.specs.Grammar.{Parsed, parse}
 use Rattle.pcode.specs.Code.{Instr}
 use Rattle.symbols.specs.Symbols.{main_scope, Row, rows, const_rows, var_rows}
 use Rattle.translator.specs.declared.Translated.{Translated}

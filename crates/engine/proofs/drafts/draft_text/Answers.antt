@@ -4,7 +4,6 @@ use native.Mathlib.Omega.{arith}
 use lib.ListN.{length}
 use lib.Seq.{length-take-le, take_at, drop_at}
 use Rattle.engine.proofs.Drafting.{standing, passed_on, drafting}
-use borrow.Author.Rules.{rules}
 use Rattle.engine.proofs.drafts.draft_text.Goals as goal
 
 pub slice_bounds-translate-end-in-Tree : goal.slice_bounds-translate-end-in-Tree

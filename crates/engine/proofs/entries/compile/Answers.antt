@@ -6,7 +6,6 @@ use borrow.Author.Tests.{not-true, not-false}
 use Rattle.outcomes.specs.Compile.{code_of, compile}
 use Rattle.engine.specs.Entries.{taken}
 use Rattle.engine.proofs.Compiling.{leaves, roomy, cramped_code, cramped_work, all_long}
-use borrow.Author.Rules.{rules}
 use Rattle.engine.proofs.entries.compile.Goals as goal
 
 pub returns-then-not-holds_code : goal.returns-then-not-holds_code

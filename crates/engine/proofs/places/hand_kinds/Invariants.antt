@@ -1,8 +1,7 @@
 -- The proof of `hand_kinds`.
-use native.Mathlib.Omega.{arith}
 use Prim.Native.Nat.{◌-◌}
 use Rattle.pcode.specs.Code.{kind_no}
-use Rattle.engine.proofs.Handing.{Handed, hand_none, hand_more, hand_all, in_draft, kind_small, kind_read}
+use Rattle.engine.proofs.Handing.{Handed}
 use Rattle.engine.proofs.places.hand_kinds.Given as goal
 
 abbrev pub invariant-loop-k : goal.invariant-loop-k

@@ -1,7 +1,6 @@
 -- The proof of `hand_levels`.
-use native.Mathlib.Omega.{arith}
 use Prim.Native.Nat.{◌-◌}
-use Rattle.engine.proofs.Handing.{Handed, hand_none, hand_more, hand_all, in_draft, level_small, level_is}
+use Rattle.engine.proofs.Handing.{Handed}
 use Rattle.engine.proofs.places.hand_levels.Given as goal
 
 abbrev pub invariant-loop-k : goal.invariant-loop-k

@@ -1,7 +1,6 @@
 -- The proof of `hand_out`.
 use Rattle.pcode.specs.Code.{code_for, place_for, kind_no}
 use Rattle.engine.proofs.Leaving.{handed}
-use borrow.Author.Rules.{rules}
 use Rattle.engine.proofs.places.hand_out.Goals as goal
 
 pub returns : goal.returns

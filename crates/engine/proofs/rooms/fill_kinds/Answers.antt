@@ -1,9 +1,7 @@
 -- The proof of `fill_kinds`.
-use Prim.Native.Nat.{◌≤◌, ◌-◌}
 use native.Mathlib.Omega.{arith}
 use lib.IntN.{negsuc}
-use Rattle.numbers.specs.Lent.{filling}
-use Rattle.numbers.proofs.Putting.{Put, put_length, filling_none, filling_more, filling_all}
+use Rattle.numbers.proofs.Putting.{put_length, filling_none, filling_more, filling_all}
 use Rattle.engine.proofs.rooms.fill_kinds.Goals as goal
 
 pub loop-k-init : goal.loop-k-init

@@ -1,9 +1,8 @@
 -- The proof of `fill_kinds`.
 use Prim.Native.Nat.{◌≤◌, ◌-◌}
-use native.Mathlib.Omega.{arith}
 use lib.IntN.{negsuc}
 use Rattle.numbers.specs.Lent.{filling}
-use Rattle.numbers.proofs.Putting.{Put, put_length, filling_none, filling_more, filling_all}
+use Rattle.numbers.proofs.Putting.{Put}
 use Rattle.engine.proofs.rooms.fill_kinds.Given as goal
 
 abbrev pub invariant-loop-k : goal.invariant-loop-k

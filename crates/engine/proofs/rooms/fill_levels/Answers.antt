@@ -1,8 +1,6 @@
 -- The proof of `fill_levels`.
-use Prim.Native.Nat.{◌≤◌, ◌-◌}
 use native.Mathlib.Omega.{arith}
-use Rattle.numbers.specs.Lent.{filling}
-use Rattle.numbers.proofs.Putting.{Put, put_length, filling_none, filling_more, filling_all}
+use Rattle.numbers.proofs.Putting.{put_length, filling_none, filling_more, filling_all}
 use Rattle.engine.proofs.rooms.fill_levels.Goals as goal
 
 pub loop-k-init : goal.loop-k-init

@@ -1,8 +1,7 @@
 -- The proof of `fill_levels`.
 use Prim.Native.Nat.{◌≤◌, ◌-◌}
-use native.Mathlib.Omega.{arith}
 use Rattle.numbers.specs.Lent.{filling}
-use Rattle.numbers.proofs.Putting.{Put, put_length, filling_none, filling_more, filling_all}
+use Rattle.numbers.proofs.Putting.{Put}
 use Rattle.engine.proofs.rooms.fill_levels.Given as goal
 
 abbrev pub invariant-loop-k : goal.invariant-loop-k

@@ -1,5 +1,4 @@
 -- The proof of `wipe`.
-use borrow.Author.Rules.{rules}
 use native.Mathlib.Omega.{arith}
 use Rattle.numbers.proofs.Putting.{filling_whole}
 use Rattle.engine.proofs.rooms.wipe.Goals as goal

@@ -1,5 +1,4 @@
 -- The proof of `ended`.
-use borrow.Author.Rules.{rules}
 use mathlib.Core.Path.{sym, ap, ◌∙◌}
 use Rattle.walk.specs.declared.progress.Outcome.{Outcome}
 use Rattle.engine.specs.Walking.{ended_of}

@@ -7,7 +7,6 @@ use borrow.Author.Tests.{not-true, not-false}
 use Rattle.numbers.proofs.Putting.{filling_whole}
 use Rattle.engine.proofs.Compiling.{all_long}
 use Rattle.engine.proofs.Walking.{zeros_stay, all_left, roomy_walk, cramped_vars, cramped_room}
-use borrow.Author.Rules.{rules}
 use Rattle.engine.proofs.walks.walk.Goals as goal
 
 pub returns-then-vars-lt-VARIABLES : goal.returns-then-vars-lt-VARIABLES

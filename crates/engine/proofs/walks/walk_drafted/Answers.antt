@@ -1,5 +1,4 @@
 -- The proof of `walk_drafted`.
-use borrow.Author.Rules.{rules}
 use native.Mathlib.Omega.{arith}
 use lib.Seq.{length-take-le}
 use Rattle.engine.proofs.Walking.{ready_stands, ready_tree, walk_procs, walk_block_lem, walk_refused, unmoved, left_in_lem, moved}
