@@ -14,7 +14,8 @@ use Rattle.lexer.specs.Names.{name_spelt, literal_fits}
 use Rattle.tree.specs.Tree.{Exp, Chain, Cond, Stmt, Stmts, Procs, Block}
 use Rattle.tree.specs.Named.{NameIn, Each, NamedExp, NamedChain, NamedCond, NamedStmt, NamedStmts, NamedConst, NamedProcs, Named}
 use Rattle.grammar.specs.Reader.{Cursor, Ans, got, refuse, Reader, counted, judge, is_mark, name_in, number_in, look, take, want, if_next, taking, want_name, want_number, commas}
-use Rattle.grammar.specs.Gets.{Gets, is_got, is_no, bind, on, test, entering}
+use Rattle.grammar.specs.Gets.{Gets, is_got, is_no}
+use Rattle.grammar.proofs.Gets.{bind, on, test, entering}
 use Rattle.grammar.specs.Grammar.{chained, exp, terms, term, factors, factor, comparison_of, compare_with, cond, Start, assign_start, if_start, while_start, call_start, body_start, read_start, write_start, starts, start_of, both, map_o, if_node, or_absent, stmt, statement, body_of, stmts, const_def, const_part, var_part, arg_part, proc_of, inner_of, later_of, program, tree, parsed, parse, fuel}
 
 module _ (src : List ℕ) where
