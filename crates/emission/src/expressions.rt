@@ -147,7 +147,7 @@ fn chain(
 ) -> Made
     requires ready { Ready text.now table.now env draft.old n }
     requires has_exp { HasExp text.now tree.now i }
-    requires i_value { get_or tree.now i 0 ≡ node_no chain_kind }
+    requires has_kind { get_or tree.now i 0 ≡ node_no chain_kind }
     ensures { (t : Exp) → ExpAt text.now tree.now i t → Emits (exp_code (here_of text.now table.now env) t n) n draft.old draft.new result }
 {
     let count = tree::number_at(tree, i + 2);

@@ -31,7 +31,7 @@ fn assign(
 ) -> Made
     requires ready { Ready text.now table.now env draft.old n }
     requires has_stmt { HasStmt text.now tree.now i }
-    requires i_value { get_or tree.now i 0 ≡ node_no assign_kind }
+    requires has_kind { get_or tree.now i 0 ≡ node_no assign_kind }
     ensures { (t : Stmt) → StmtAt text.now tree.now i t → Emits (stmt_code (here_of text.now table.now env) t n) n draft.old draft.new result }
 {
     let f = lookup(text, table, env, tree[i + 6], tree[i + 7]);
@@ -88,7 +88,7 @@ fn read(
 ) -> Made
     requires ready { Ready text.now table.now env draft.old n }
     requires has_stmt { HasStmt text.now tree.now i }
-    requires i_value { get_or tree.now i 0 ≡ node_no read_kind }
+    requires has_kind { get_or tree.now i 0 ≡ node_no read_kind }
     ensures { (t : Stmt) → StmtAt text.now tree.now i t → Emits (stmt_code (here_of text.now table.now env) t n) n draft.old draft.new result }
 {
     let count = tree::number_at(tree, i + 2);
@@ -119,7 +119,7 @@ fn write(
 ) -> Made
     requires ready { Ready text.now table.now env draft.old n }
     requires has_stmt { HasStmt text.now tree.now i }
-    requires i_value { get_or tree.now i 0 ≡ node_no write_kind }
+    requires has_kind { get_or tree.now i 0 ≡ node_no write_kind }
     ensures { (t : Stmt) → StmtAt text.now tree.now i t → Emits (stmt_code (here_of text.now table.now env) t n) n draft.old draft.new result }
 {
     let count = tree::number_at(tree, i + 2);
@@ -150,7 +150,7 @@ fn args(
 ) -> Made
     requires ready { Ready text.now table.now env draft.old n }
     requires has_stmt { HasStmt text.now tree.now i }
-    requires i_value { get_or tree.now i 0 ≡ node_no call_kind }
+    requires has_kind { get_or tree.now i 0 ≡ node_no call_kind }
     ensures { (f : Name) (es : List Exp) → StmtAt text.now tree.now i (call f es) → Emits (args_code (here_of text.now table.now env) es n) n draft.old draft.new result }
 {
     let count = tree::number_at(tree, i + 2);
@@ -181,7 +181,7 @@ fn call(
 ) -> Made
     requires ready { Ready text.now table.now env draft.old n }
     requires has_stmt { HasStmt text.now tree.now i }
-    requires i_value { get_or tree.now i 0 ≡ node_no call_kind }
+    requires has_kind { get_or tree.now i 0 ≡ node_no call_kind }
     ensures { (t : Stmt) → StmtAt text.now tree.now i t → Emits (stmt_code (here_of text.now table.now env) t n) n draft.old draft.new result }
 {
     let f = lookup(text, table, env, tree[i + 6], tree[i + 7]);
@@ -248,7 +248,7 @@ fn conditional(
 ) -> Made
     requires ready { Ready text.now table.now env draft.old n }
     requires has_stmt { HasStmt text.now tree.now i }
-    requires i_value { get_or tree.now i 0 ≡ node_no if_kind }
+    requires has_kind { get_or tree.now i 0 ≡ node_no if_kind }
     ensures { (t : Stmt) → StmtAt text.now tree.now i t → Emits (stmt_code (here_of text.now table.now env) t n) n draft.old draft.new result }
 {
     let a = guarded(tree, i, text, table, env, draft, n);
@@ -292,7 +292,7 @@ fn looped(
 ) -> Made
     requires ready { Ready text.now table.now env draft.old n }
     requires has_stmt { HasStmt text.now tree.now i }
-    requires i_value { get_or tree.now i 0 ≡ node_no while_kind }
+    requires has_kind { get_or tree.now i 0 ≡ node_no while_kind }
     ensures { (t : Stmt) → StmtAt text.now tree.now i t → Emits (stmt_code (here_of text.now table.now env) t n) n draft.old draft.new result }
 {
     let a = guarded(tree, i, text, table, env, draft, n);
@@ -315,7 +315,7 @@ pub fn body(
 ) -> Made
     requires ready { Ready text.now table.now env draft.old n }
     requires has_stmt { HasStmt text.now tree.now i }
-    requires i_value { get_or tree.now i 0 ≡ node_no body_kind }
+    requires has_kind { get_or tree.now i 0 ≡ node_no body_kind }
     ensures { (t : Stmt) → StmtAt text.now tree.now i t → Emits (stmt_code (here_of text.now table.now env) t n) n draft.old draft.new result }
 {
     let count = tree::number_at(tree, i + 2);

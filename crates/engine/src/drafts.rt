@@ -36,9 +36,9 @@ pub fn draft_text(text: &[u8], tree: &mut [u32], table: &mut [u32], draft: &mut 
     requires table_places_in_bounds { table_places ≤ length table.old }
     requires draft_places_in_bounds { draft_places ≤ length draft.old }
     ensures drafting { Drafting text.now tree.new table.new draft.new result }
-    ensures tree_unchanged { drop tree_places tree.new ≡ drop tree_places tree.old }
-    ensures table_unchanged { drop table_places table.new ≡ drop table_places table.old }
-    ensures draft_unchanged { drop draft_places draft.new ≡ drop draft_places draft.old }
+    ensures past_tree_kept { drop tree_places tree.new ≡ drop tree_places tree.old }
+    ensures past_table_kept { drop table_places table.new ≡ drop table_places table.old }
+    ensures past_draft_kept { drop draft_places draft.new ≡ drop draft_places draft.old }
 {
     let p = parser::parse(text, tree);
     match p {

@@ -55,7 +55,7 @@ pub fn compile(
     table: &mut [u32],
     draft: &mut [u32],
 ) -> Compiled
-    ensures { compiled_of result kinds.exit.now levels.new operands.new tree.exit.now table.new draft.new ≡ compile_outcome text.now (record { kinds = kinds.entry.now; levels = levels.old; operands = operands.old }) (record { tree = tree.entry.now; table = table.old; draft = draft.old }) }
+    ensures { compiled_of result kinds.new levels.new operands.new tree.new table.new draft.new ≡ compile_outcome text.now (record { kinds = kinds.old; levels = levels.old; operands = operands.old }) (record { tree = tree.old; table = table.old; draft = draft.old }) }
 {
     if !holds_code(kinds.len(), levels.len(), operands.len()) {
         return Compiled {

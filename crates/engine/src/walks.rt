@@ -68,9 +68,9 @@ fn walk_drafted(
     vars: &mut [i64],
     out: &mut [u8],
 ) -> Ended
-    requires by_index { (draft : List ℕ) × Drafting text.now tree.now table.now draft t }
+    requires drafted { (draft : List ℕ) × Drafting text.now tree.now table.now draft t }
     requires table_places_in_bounds { table_places ≤ length table.now }
-    requires vars_value { vars.old ≡ onto vars.old (replicate max_variables (pos 0)) }
+    requires vars_cleared { vars.old ≡ onto vars.old (replicate max_variables (pos 0)) }
     ensures { Leaves (walk text.now input.now budget (length out.old)) budget vars.old out.old vars.new out.new result }
 {
     match t {
@@ -96,7 +96,7 @@ pub fn walk(
     table: &mut [u32],
     draft: &mut [u32],
 ) -> Ended
-    ensures { walked_of result out.new vars.new tree.exit.now table.new draft.new ≡ walk_outcome text.now input.now budget out.old vars.old (record { tree = tree.entry.now; table = table.old; draft = draft.old }) }
+    ensures { walked_of result out.new vars.new tree.new table.new draft.new ≡ walk_outcome text.now input.now budget out.old vars.old (record { tree = tree.old; table = table.old; draft = draft.old }) }
 {
     if vars.len() < VARIABLES {
         return refused(ROOM_TOO_SMALL);

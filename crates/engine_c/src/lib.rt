@@ -24,7 +24,7 @@ pub extern "C" fn loopgarret_compile(
     table: &mut [u32],
     draft: &mut [u32],
 ) -> Compiled
-    ensures { compiled_of result kinds.exit.now levels.new operands.new tree.exit.now table.new draft.new ≡ compile_outcome text.now (record { kinds = kinds.entry.now; levels = levels.old; operands = operands.old }) (record { tree = tree.entry.now; table = table.old; draft = draft.old }) }
+    ensures { compiled_of result kinds.new levels.new operands.new tree.new table.new draft.new ≡ compile_outcome text.now (record { kinds = kinds.old; levels = levels.old; operands = operands.old }) (record { tree = tree.old; table = table.old; draft = draft.old }) }
 {
     compile(text, kinds, levels, operands, tree, table, draft)
 }
@@ -39,7 +39,7 @@ pub extern "C" fn loopgarret_run(
     out: &mut [u8],
     cells: &mut [i64],
 ) -> Ended
-    ensures { outcome_of result out.new cells.new ≡ run_outcome (record { kinds = kinds.entry.now; levels = levels.now; operands = operands.now }) input.now budget out.old cells.old }
+    ensures { outcome_of result out.new cells.new ≡ run_outcome (record { kinds = kinds.now; levels = levels.now; operands = operands.now }) input.now budget out.old cells.old }
 {
     machine::run(kinds, levels, operands, input, budget, out, cells)
 }
@@ -55,7 +55,7 @@ pub extern "C" fn loopgarret_walk(
     table: &mut [u32],
     draft: &mut [u32],
 ) -> Ended
-    ensures { walked_of result out.new vars.new tree.exit.now table.new draft.new ≡ walk_outcome text.now input.now budget out.old vars.old (record { tree = tree.entry.now; table = table.old; draft = draft.old }) }
+    ensures { walked_of result out.new vars.new tree.new table.new draft.new ≡ walk_outcome text.now input.now budget out.old vars.old (record { tree = tree.old; table = table.old; draft = draft.old }) }
 {
     walk(text, input, budget, out, vars, tree, table, draft)
 }
@@ -67,7 +67,7 @@ pub extern "C" fn loopgarret_list(
     operands: &[i64],
     out: &mut [u8],
 ) -> Listed
-    ensures { listed_of result out.new ≡ list_outcome (record { kinds = kinds.entry.now; levels = levels.now; operands = operands.now }) out.old }
+    ensures { listed_of result out.new ≡ list_outcome (record { kinds = kinds.now; levels = levels.now; operands = operands.now }) out.old }
 {
     listing::list(kinds, levels, operands, out)
 }

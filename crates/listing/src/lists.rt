@@ -27,7 +27,7 @@ pub struct Listed {
 
 // Writes the listing of a code list, whole lines only.
 pub fn list(kinds: &[i8], levels: &[u16], operands: &[i64], out: &mut [u8]) -> Listed
-    ensures { listed_of result out.new ≡ list_outcome (record { kinds = kinds.entry.now; levels = levels.now; operands = operands.now }) out.old }
+    ensures { listed_of result out.new ≡ list_outcome (record { kinds = kinds.now; levels = levels.now; operands = operands.now }) out.old }
 {
     let places = code_length(kinds, levels, operands);
     if MAX_CODE < places {

@@ -72,9 +72,7 @@ fn obey(rt: &HostRuntime, command: Command) -> u8 {
         return say::no_sheet(rt);
     }
     let mut name = io::buffer();
-    let Ok(n) = rt.arg(place, &mut name) else {
-        return say::no_sheet(rt);
-    };
+    let n = rt.arg(place, &mut name).unwrap_or(0);
     sheet::open(rt, command, asked, &name[..n])
 }
 

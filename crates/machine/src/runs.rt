@@ -149,7 +149,7 @@ pub fn run(
     out: &mut [u8],
     cells: &mut [i64],
 ) -> Ended
-    ensures { outcome_of result out.new cells.new ≡ run_outcome (record { kinds = kinds.entry.now; levels = levels.now; operands = operands.now }) input.now budget out.old cells.old }
+    ensures { outcome_of result out.new cells.new ≡ run_outcome (record { kinds = kinds.now; levels = levels.now; operands = operands.now }) input.now budget out.old cells.old }
 {
     if cells.len() < CELLS {
         return refused(ROOM_TOO_SMALL);

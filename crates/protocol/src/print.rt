@@ -141,8 +141,8 @@ fn put_place(out: &mut [u8], at: usize, kind: i8, level: u16, operand: i64) -> u
 // Places joined by `;`, `-` where there are none.
 pub fn put_code(out: &mut [u8], at: usize, kinds: &[i8], levels: &[u16], operands: &[i64]) -> usize
     requires at_in_bounds { at ≤ length out.old }
-    requires kinds_in_bounds { length kinds.now ≤ length levels.now }
-    requires kinds_in_bounds_2 { length kinds.now ≤ length operands.now }
+    requires kinds_in_levels { length kinds.now ≤ length levels.now }
+    requires kinds_in_operands { length kinds.now ≤ length operands.now }
     ensures { result ≤ length out.old }
 {
     if kinds.len() == 0 {

@@ -86,7 +86,7 @@ pub fn see(table: &mut [u32], used: usize, scope: u32)
     requires linked { Linked table.old used }
     requires scope_le_used { scope ≤ used }
     ensures seen { Seen table.new used scope }
-    ensures by_index { (s : List ℕ) → Sound s table.old used → Became 11 s table.old used (rows_in s table.old used) table.new }
+    ensures rows_stay { (s : List ℕ) → Sound s table.old used → Became 11 s table.old used (rows_in s table.old used) table.new }
 {
     clear(table, used);
     mark(table, scope);

@@ -286,7 +286,7 @@ fn chain(
 ) -> Valued
     requires known { Known text.now table.now env vars.now }
     requires has_exp { HasExp text.now tree.now i }
-    requires i_value { get_or tree.now i 0 ≡ node_no chain_kind }
+    requires has_kind { get_or tree.now i 0 ≡ node_no chain_kind }
     ensures { (t : Exp) → ExpAt text.now tree.now i t → (w : State) → Shows vars.now env c w → Gives (c.top + 1) c w (walk_exp (rows_of text.now table.now env) t c.left w) result }
 {
     let count = tree::number_at(tree, i + 2);

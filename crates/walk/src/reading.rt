@@ -100,7 +100,7 @@ pub fn reads(
 ) -> Outcome
     requires rows { Rows text.now table.now env }
     requires has_stmt { HasStmt text.now tree.now i }
-    requires i_value { get_or tree.now i 0 ≡ node_no read_kind }
+    requires has_kind { get_or tree.now i 0 ≡ node_no read_kind }
     requires has_state { HasState env input.now vars.old out.old p }
     ensures { (t : Stmt) → StmtAt text.now tree.now i t → (lv : List ℤ) (lo : List ℕ) (w : State) → Holds env input.now lv lo vars.old out.old p w → Ends env input.now lv lo vars.new out.new p (walk_stmt (rows_of text.now table.now env) (length lo) t p.clock.left w) result }
 {

@@ -96,7 +96,7 @@ fn conditional(
 ) -> Outcome
     requires rows { Rows text.now table.now env }
     requires has_stmt { HasStmt text.now tree.now i }
-    requires i_value { get_or tree.now i 0 ≡ node_no if_kind }
+    requires has_kind { get_or tree.now i 0 ≡ node_no if_kind }
     requires has_state { HasState env input.now vars.old out.old p }
     ensures { (t : Stmt) → StmtAt text.now tree.now i t → (lv : List ℤ) (lo : List ℕ) (w : State) → Holds env input.now lv lo vars.old out.old p w → Ends env input.now lv lo vars.new out.new p (walk_stmt (rows_of text.now table.now env) (length lo) t p.clock.left w) result }
 {
@@ -130,7 +130,7 @@ fn looped(
 ) -> Outcome
     requires rows { Rows text.now table.now env }
     requires has_stmt { HasStmt text.now tree.now i }
-    requires i_value { get_or tree.now i 0 ≡ node_no while_kind }
+    requires has_kind { get_or tree.now i 0 ≡ node_no while_kind }
     requires has_state { HasState env input.now vars.old out.old p }
     ensures { (t : Stmt) → StmtAt text.now tree.now i t → (lv : List ℤ) (lo : List ℕ) (w : State) → Holds env input.now lv lo vars.old out.old p w → Ends env input.now lv lo vars.new out.new p (walk_stmt (rows_of text.now table.now env) (length lo) t p.clock.left w) result }
 {
@@ -167,7 +167,7 @@ pub fn body(
 ) -> Outcome
     requires rows { Rows text.now table.now env }
     requires has_stmt { HasStmt text.now tree.now i }
-    requires i_value { get_or tree.now i 0 ≡ node_no body_kind }
+    requires has_kind { get_or tree.now i 0 ≡ node_no body_kind }
     requires has_state { HasState env input.now vars.old out.old p }
     ensures { (t : Stmt) → StmtAt text.now tree.now i t → (lv : List ℤ) (lo : List ℕ) (w : State) → Holds env input.now lv lo vars.old out.old p w → Ends env input.now lv lo vars.new out.new p (walk_stmt (rows_of text.now table.now env) (length lo) t p.clock.left w) result }
 {

@@ -78,7 +78,7 @@ pub fn assign(
 ) -> Outcome
     requires rows { Rows text.now table.now env }
     requires has_stmt { HasStmt text.now tree.now i }
-    requires i_value { get_or tree.now i 0 ≡ node_no assign_kind }
+    requires has_kind { get_or tree.now i 0 ≡ node_no assign_kind }
     requires vars_in_bounds { env.vars ≤ length vars.old }
     ensures { (t : Stmt) → StmtAt text.now tree.now i t → (room : ℕ) (input : List ℕ) (lv : List ℤ) (lo out : List ℕ) (w : State) → Holds env input lv lo vars.old out p w → Ends env input lv lo vars.new out p (walk_stmt (rows_of text.now table.now env) room t p.clock.left w) result }
 {

@@ -87,7 +87,7 @@ pub fn writes(
 ) -> Outcome
     requires known { Known text.now table.now env vars.now }
     requires has_stmt { HasStmt text.now tree.now i }
-    requires i_value { get_or tree.now i 0 ≡ node_no write_kind }
+    requires has_kind { get_or tree.now i 0 ≡ node_no write_kind }
     ensures { (t : Stmt) → StmtAt text.now tree.now i t → (input : List ℕ) (lv : List ℤ) (lo : List ℕ) (w : State) → Holds env input lv lo vars.now out.old p w → Ends env input lv lo vars.now out.new p (walk_stmt (rows_of text.now table.now env) (length lo) t p.clock.left w) result }
 {
     let count = tree::number_at(tree, i + 2);

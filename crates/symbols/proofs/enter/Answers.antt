@@ -18,7 +18,7 @@ pub add-requires : goal.add-requires
 add-requires c =
     record {
       declares = c.requires;
-      scope_value = λ k. sym c.declared.ensures ∙ c.if-declared.false;
+      new_procedure = λ k. sym c.declared.ensures ∙ c.if-declared.false;
     }
 
 pub returns : goal.returns

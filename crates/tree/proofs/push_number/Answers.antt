@@ -5,15 +5,15 @@ use Rattle.tree.proofs.Literals.{plain, below}
 use Rattle.tree.proofs.push_number.Goals as goal
 
 pub overflow_cast-v : goal.overflow_cast-v
-overflow_cast-v c = rw (plain _ _ c.ranges.value c.requires.by_index.1) (tt, omega (arith, below _ _ c.ranges.value c.requires.by_index.1))
+overflow_cast-v c = rw (plain _ _ c.ranges.value c.requires.not_negative.1) (tt, omega (arith, below _ _ c.ranges.value c.requires.not_negative.1))
 
 pub overflow_cast-v-3 : goal.overflow_cast-v-3
-overflow_cast-v-3 c = rw (plain _ _ c.ranges.value c.requires.by_index.1) (omega (arith, below _ _ c.ranges.value c.requires.by_index.1))
+overflow_cast-v-3 c = rw (plain _ _ c.ranges.value c.requires.not_negative.1) (omega (arith, below _ _ c.ranges.value c.requires.not_negative.1))
 
 pub returns : goal.returns
 unfolding enc
 returns c =
     record {
-      value = c.push.ensures.0;
-      by_index_2 = λ v h. rw c.push.ensures.0 (rw (plain _ _ c.ranges.value h) at c.push.ensures.1);
+      next = c.push.ensures.0;
+      literal_behind = λ v h. rw c.push.ensures.0 (rw (plain _ _ c.ranges.value h) at c.push.ensures.1);
     }

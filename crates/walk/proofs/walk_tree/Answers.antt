@@ -26,15 +26,15 @@ pub start-r-requires : goal.start-r-requires
 start-r-requires c = omega (arith, c.number_at-count.ensures, names_count _ c.requires.has_tree.at.stands c.after-names.ensures, few c.requires.has_tree.at)
 
 pub returns-in_default : goal.returns-in_default
-returns-in_default c = whole_spent _ _ _ _ c.args.input.now c.args.budget _ _ _ c.after-names.ensures c.number_at-count.ensures (omega (arith, c.well_formed)) c.requires.vars_value c.start-r.ensures c.in_default.is
+returns-in_default c = whole_spent _ _ _ _ c.args.input.now c.args.budget _ _ _ c.after-names.ensures c.number_at-count.ensures (omega (arith, c.well_formed)) c.requires.vars_cleared c.start-r.ensures c.in_default.is
 
 pub part-requires : goal.part-requires
 part-requires c =
     record {
       rows = rows_in_lem c.requires.has_tree.at _;
       has_stmt = record { stmt = _; at = main_in c.requires.has_tree.at c.after-names.ensures c.after-procedures.ensures c.after-main.ensures };
-      has_state = main_held _ _ _ _ c.args.input.now c.args.budget _ _ _ c.after-names.ensures c.number_at-count.ensures (omega (arith, c.well_formed)) c.requires.vars_value c.start-r.ensures c.requires.has_tree.at c.in-Done.is;
+      has_state = main_held _ _ _ _ c.args.input.now c.args.budget _ _ _ c.after-names.ensures c.number_at-count.ensures (omega (arith, c.well_formed)) c.requires.vars_cleared c.start-r.ensures c.requires.has_tree.at c.in-Done.is;
     }
 
 pub returns : goal.returns
-returns c = whole_walked _ _ _ _ c.args.input.now c.args.budget _ _ _ c.after-names.ensures c.number_at-count.ensures (omega (arith, c.well_formed)) c.requires.vars_value c.start-r.ensures c.in-Done.is c.after-procedures.ensures c.after-main.ensures c.part.ensures
+returns c = whole_walked _ _ _ _ c.args.input.now c.args.budget _ _ _ c.after-names.ensures c.number_at-count.ensures (omega (arith, c.well_formed)) c.requires.vars_cleared c.start-r.ensures c.in-Done.is c.after-procedures.ensures c.after-main.ensures c.part.ensures

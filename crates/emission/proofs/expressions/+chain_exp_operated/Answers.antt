@@ -20,47 +20,47 @@ pub chain-overflow_add-i-2 : goal.chain-overflow_add-i-2
 chain-overflow_add-i-2 t c = omega (arith, exp_fits c.requires.has_exp.at, c.well_formed)
 
 pub chain-exp-r-requires : goal.chain-exp-r-requires
-chain-exp-r-requires t c = (omega (arith, c.decreases, exp_fits c.requires.has_exp.at), (c.requires.ready, has_first c.requires.i_value c.requires.has_exp))
+chain-exp-r-requires t c = (omega (arith, c.decreases, exp_fits c.requires.has_exp.at), (c.requires.ready, has_first c.requires.has_kind c.requires.has_exp))
 
 pub chain-returns-in_default : goal.chain-returns-in_default
-chain-returns-in_default t c = chain_stop _ _ _ c.requires.i_value c.exp-r.ensures _ (stops c.in_default.is)
+chain-returns-in_default t c = chain_stop _ _ _ c.requires.has_kind c.exp-r.ensures _ (stops c.in_default.is)
 
 pub chain-overflow_add-i-3 : goal.chain-overflow_add-i-3
 chain-overflow_add-i-3 t c = omega (arith, exp_fits c.requires.has_exp.at, c.well_formed)
 
 pub chain-after-j-requires : goal.chain-after-j-requires
-chain-after-j-requires t c = (_, (has_first c.requires.i_value c.requires.has_exp).at.stands)
+chain-after-j-requires t c = (_, (has_first c.requires.has_kind c.requires.has_exp).at.stands)
 
 pub chain-loop-k-init : goal.chain-loop-k-init
-chain-loop-k-init t c = (refl, links_start _ _ _ _ _ _ _ _ c.number_at-count.ensures c.after-j.ensures (wrote_at c.in-At.is (c.exp-r.ensures _ (has_first c.requires.i_value c.requires.has_exp).at)).most)
+chain-loop-k-init t c = (refl, links_start _ _ _ _ _ _ _ _ c.number_at-count.ensures c.after-j.ensures (wrote_at c.in-At.is (c.exp-r.ensures _ (has_first c.requires.has_kind c.requires.has_exp).at)).most)
 
 pub chain-overflow_add-j : goal.chain-overflow_add-j
 chain-overflow_add-j t c =
-    let w = the_chain c.requires.i_value c.requires.has_exp in
+    let w = the_chain c.requires.has_kind c.requires.has_exp in
     let d = loop_head _ _ _ _ _ _ _ _ _ c.loop-k.invariant.1 c.loop-k-test.true w.0 w.1 in
     omega (arith, d.fits, c.well_formed)
 
 pub chain-offset_bounds-tree-j : goal.chain-offset_bounds-tree-j
 chain-offset_bounds-tree-j t c =
-    let w = the_chain c.requires.i_value c.requires.has_exp in
+    let w = the_chain c.requires.has_kind c.requires.has_exp in
     let d = loop_head _ _ _ _ _ _ _ _ _ c.loop-k.invariant.1 c.loop-k-test.true w.0 w.1 in
     omega (arith, d.fits, c.well_formed)
 
 pub chain-bounds-tree-j : goal.chain-bounds-tree-j
 chain-bounds-tree-j t c =
-    let w = the_chain c.requires.i_value c.requires.has_exp in
+    let w = the_chain c.requires.has_kind c.requires.has_exp in
     let d = loop_head _ _ _ _ _ _ _ _ _ c.loop-k.invariant.1 c.loop-k-test.true w.0 w.1 in
     omega (arith, d.fits, c.well_formed)
 
 pub chain-overflow_add-tree : goal.chain-overflow_add-tree
 chain-overflow_add-tree t c =
-    let w = the_chain c.requires.i_value c.requires.has_exp in
+    let w = the_chain c.requires.has_kind c.requires.has_exp in
     let d = loop_head _ _ _ _ _ _ _ _ _ c.loop-k.invariant.1 c.loop-k-test.true w.0 w.1 in
     omega (arith, link_small _ d.head d.at)
 
 pub chain-operated-q-requires : goal.chain-operated-q-requires
 chain-operated-q-requires t c =
-    let w = the_chain c.requires.i_value c.requires.has_exp in
+    let w = the_chain c.requires.has_kind c.requires.has_exp in
     let d = loop_head _ _ _ _ _ _ _ _ _ c.loop-k.invariant.1 c.loop-k-test.true w.0 w.1 in
     (omega (arith, c.decreases, d.fits, d.beyond), (record { known = c.requires.ready.known; room = omega (arith, c.requires.ready.room, c.loop-k.invariant.0, c.exp-r.auto.draft); most = d.most }, record { exp = d.head.1; at = d.at.1 }))
 
@@ -68,11 +68,11 @@ pub chain-shape_of-draft-in_default-q : goal.chain-shape_of-draft-in_default-q
 chain-shape_of-draft-in_default-q t c = c.operated-q.auto.draft ∙ c.loop-k.invariant.0 ∙ c.exp-r.auto.draft
 
 pub chain-returns-in_default-q : goal.chain-returns-in_default-q
-chain-returns-in_default-q t c = chain_end _ _ _ c.requires.i_value c.exp-r.ensures c.requires.ready.most c.in-At.is (loop_stop _ _ _ _ _ _ _ _ _ c.loop-k.invariant.1 c.loop-k-test.true (link_ens _ _ _ c.operated-q.ensures) _ (stops c.in_default-q.is))
+chain-returns-in_default-q t c = chain_end _ _ _ c.requires.has_kind c.exp-r.ensures c.requires.ready.most c.in-At.is (loop_stop _ _ _ _ _ _ _ _ _ c.loop-k.invariant.1 c.loop-k-test.true (link_ens _ _ _ c.operated-q.ensures) _ (stops c.in_default-q.is))
 
 pub chain-after-j-requires-in-loop-k : goal.chain-after-j-requires-in-loop-k
 chain-after-j-requires-in-loop-k t c =
-    let w = the_chain c.requires.i_value c.requires.has_exp in
+    let w = the_chain c.requires.has_kind c.requires.has_exp in
     let d = loop_head _ _ _ _ _ _ _ _ _ c.loop-k.invariant.1 c.loop-k-test.true w.0 w.1 in
     (_, d.stands)
 
@@ -89,7 +89,7 @@ pub chain-shape_of-draft : goal.chain-shape_of-draft
 chain-shape_of-draft t c = c.loop-k.invariant.0 ∙ c.exp-r.auto.draft
 
 pub chain-returns : goal.chain-returns
-chain-returns t c = chain_end _ _ _ c.requires.i_value c.exp-r.ensures c.requires.ready.most c.in-At.is (loop_done _ _ _ _ _ _ _ _ _ c.loop-k.invariant.1 (links_empty _) c.loop-k-test.false)
+chain-returns t c = chain_end _ _ _ c.requires.has_kind c.exp-r.ensures c.requires.ready.most c.in-At.is (loop_done _ _ _ _ _ _ _ _ _ c.loop-k.invariant.1 (links_empty _) c.loop-k-test.false)
 
 pub exp-offset_bounds-tree-i : goal.exp-offset_bounds-tree-i
 exp-offset_bounds-tree-i t c = omega (arith, exp_fits c.requires.has_exp.at, c.well_formed)

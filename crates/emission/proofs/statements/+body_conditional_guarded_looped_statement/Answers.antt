@@ -20,7 +20,7 @@ pub body-overflow_add-j : goal.body-overflow_add-j
 body-overflow_add-j t c = omega (arith, stmt_fits c.requires.has_stmt.at, c.well_formed)
 
 pub body-loop-k-init : goal.body-loop-k-init
-body-loop-k-init t c = (refl, body_start_lem _ _ _ _ _ _ _ c.requires.i_value c.number_at-count.ensures c.requires.ready.most)
+body-loop-k-init t c = (refl, body_start_lem _ _ _ _ _ _ _ c.requires.has_kind c.number_at-count.ensures c.requires.ready.most)
 
 pub body-statement-r-requires : goal.body-statement-r-requires
 body-statement-r-requires t c =
@@ -54,10 +54,10 @@ pub body-returns : goal.body-returns
 body-returns t c = loop_done _ _ _ _ _ _ _ _ _ c.loop-k.invariant.1 (body_empty _) c.loop-k-test.false
 
 pub conditional-guarded-a-requires : goal.conditional-guarded-a-requires
-conditional-guarded-a-requires t c = (omega (arith, c.decreases), (c.requires.ready, has_if c.requires.i_value c.requires.has_stmt))
+conditional-guarded-a-requires t c = (omega (arith, c.decreases), (c.requires.ready, has_if c.requires.has_kind c.requires.has_stmt))
 
 pub conditional-returns-in_default : goal.conditional-returns-in_default
-conditional-returns-in_default t c = if_stop _ c.requires.i_value c.guarded-a.ensures _ (stops c.in_default.is)
+conditional-returns-in_default t c = if_stop _ c.requires.has_kind c.guarded-a.ensures _ (stops c.in_default.is)
 
 pub conditional-emit-b-requires : goal.conditional-emit-b-requires
 conditional-emit-b-requires t c = omega (arith, c.requires.ready.room, c.guarded-a.auto.draft)
@@ -66,7 +66,7 @@ pub conditional-shape_of-draft-in_default-b : goal.conditional-shape_of-draft-in
 conditional-shape_of-draft-in_default-b t c = c.emit-b.auto.draft ∙ c.guarded-a.auto.draft
 
 pub conditional-returns-in_default-b : goal.conditional-returns-in_default-b
-conditional-returns-in_default-b t c = if_full _ c.requires.i_value c.guarded-a.ensures c.requires.ready.most c.in-At.is (c.emit-b.ensures JMP refl) _ (stops c.in_default-b.is)
+conditional-returns-in_default-b t c = if_full _ c.requires.has_kind c.guarded-a.ensures c.requires.ready.most c.in-At.is (c.emit-b.ensures JMP refl) _ (stops c.in_default-b.is)
 
 pub conditional-overflow_add-i : goal.conditional-overflow_add-i
 conditional-overflow_add-i t c = omega (arith, stmt_fits c.requires.has_stmt.at, c.well_formed)
@@ -89,20 +89,20 @@ pub conditional-shape_of-draft-then-tree-i-lt3 : goal.conditional-shape_of-draft
 conditional-shape_of-draft-then-tree-i-lt3 t c = c.fix.auto.draft ∙ c.emit-b.auto.draft ∙ c.guarded-a.auto.draft
 
 pub conditional-returns-then-tree-i-lt3 : goal.conditional-returns-then-tree-i-lt3
-conditional-returns-then-tree-i-lt3 t c = if_short _ c.requires.i_value c.guarded-a.ensures c.requires.ready.most c.in-At.is (c.emit-b.ensures JMP refl) c.in-At-b.is (omega (arith, c.requires.ready.room, c.guarded-a.auto.draft)) c.if-tree-i-lt3.true c.fix.ensures
+conditional-returns-then-tree-i-lt3 t c = if_short _ c.requires.has_kind c.guarded-a.ensures c.requires.ready.most c.in-At.is (c.emit-b.ensures JMP refl) c.in-At-b.is (omega (arith, c.requires.ready.room, c.guarded-a.auto.draft)) c.if-tree-i-lt3.true c.fix.ensures
 
 pub conditional-overflow_add-i-2 : goal.conditional-overflow_add-i-2
 conditional-overflow_add-i-2 t c = omega (arith, stmt_fits c.requires.has_stmt.at, c.well_formed)
 
 pub conditional-after-requires : goal.conditional-after-requires
-conditional-after-requires t c = (_, (has_cond (has_if c.requires.i_value c.requires.has_stmt)).at.stands)
+conditional-after-requires t c = (_, (has_cond (has_if c.requires.has_kind c.requires.has_stmt)).at.stands)
 
 pub conditional-after-requires-2 : goal.conditional-after-requires-2
-conditional-after-requires-2 t c = (_, (has_inner c.after.ensures (has_if c.requires.i_value c.requires.has_stmt)).has.at.stands)
+conditional-after-requires-2 t c = (_, (has_inner c.after.ensures (has_if c.requires.has_kind c.requires.has_stmt)).has.at.stands)
 
 pub conditional-statement-r-requires : goal.conditional-statement-r-requires
 conditional-statement-r-requires t c =
-    let d = if_other c.requires.i_value c.requires.has_stmt c.if-tree-i-lt3.false c.after.ensures c.after-2.ensures in
+    let d = if_other c.requires.has_kind c.requires.has_stmt c.if-tree-i-lt3.false c.after.ensures c.after-2.ensures in
     let w = one c.in-At-b.is (c.emit-b.ensures JMP refl) in
     (omega (arith, c.decreases, d.fits, d.beyond), (record { known = c.requires.ready.known; room = omega (arith, c.requires.ready.room, c.guarded-a.auto.draft, c.emit-b.auto.draft); most = omega (arith, w.below, w.ends) }, d.has))
 
@@ -110,11 +110,11 @@ pub conditional-shape_of-draft-in_default-r : goal.conditional-shape_of-draft-in
 conditional-shape_of-draft-in_default-r t c = c.statement-r.auto.draft ∙ c.emit-b.auto.draft ∙ c.guarded-a.auto.draft
 
 pub conditional-returns-in_default-r : goal.conditional-returns-in_default-r
-conditional-returns-in_default-r t c = if_inner _ c.requires.i_value c.guarded-a.ensures c.requires.ready.most c.in-At.is (c.emit-b.ensures JMP refl) c.in-At-b.is (omega (arith, c.requires.ready.room, c.guarded-a.auto.draft)) c.if-tree-i-lt3.false c.after.ensures c.after-2.ensures c.statement-r.ensures _ (stops c.in_default-r.is)
+conditional-returns-in_default-r t c = if_inner _ c.requires.has_kind c.guarded-a.ensures c.requires.ready.most c.in-At.is (c.emit-b.ensures JMP refl) c.in-At-b.is (omega (arith, c.requires.ready.room, c.guarded-a.auto.draft)) c.if-tree-i-lt3.false c.after.ensures c.after-2.ensures c.statement-r.ensures _ (stops c.in_default-r.is)
 
 pub conditional-fix-requires-2 : goal.conditional-fix-requires-2
 conditional-fix-requires-2 t c =
-    let d = if_other c.requires.i_value c.requires.has_stmt c.if-tree-i-lt3.false c.after.ensures c.after-2.ensures in
+    let d = if_other c.requires.has_kind c.requires.has_stmt c.if-tree-i-lt3.false c.after.ensures c.after-2.ensures in
     let v = wrote_at c.in-At-r.is (c.statement-r.ensures _ d.has.at) in
     record {
       draft_places_in_bounds = omega (arith, c.requires.ready.room, c.guarded-a.auto.draft, c.emit-b.auto.draft, c.statement-r.auto.draft);
@@ -125,7 +125,7 @@ pub conditional-shape_of-draft : goal.conditional-shape_of-draft
 conditional-shape_of-draft t c = c.fix-2.auto.draft ∙ c.statement-r.auto.draft ∙ c.emit-b.auto.draft ∙ c.guarded-a.auto.draft
 
 pub conditional-returns : goal.conditional-returns
-conditional-returns t c = if_made _ c.requires.i_value c.guarded-a.ensures c.requires.ready.most c.in-At.is (c.emit-b.ensures JMP refl) c.in-At-b.is (omega (arith, c.requires.ready.room, c.guarded-a.auto.draft)) c.if-tree-i-lt3.false c.after.ensures c.after-2.ensures c.statement-r.ensures c.in-At-r.is c.fix-2.ensures
+conditional-returns t c = if_made _ c.requires.has_kind c.guarded-a.ensures c.requires.ready.most c.in-At.is (c.emit-b.ensures JMP refl) c.in-At-b.is (omega (arith, c.requires.ready.room, c.guarded-a.auto.draft)) c.if-tree-i-lt3.false c.after.ensures c.after-2.ensures c.statement-r.ensures c.in-At-r.is c.fix-2.ensures
 
 pub guarded-overflow_add-i : goal.guarded-overflow_add-i
 guarded-overflow_add-i t c = omega (arith, guard_fits c.requires.has_guard.at, c.well_formed)
@@ -188,10 +188,10 @@ pub guarded-returns : goal.guarded-returns
 guarded-returns t c = guard_made _ c.l_exp-a.ensures c.requires.ready.most c.in-At.is (c.emit-b.ensures JPC refl) c.in-At-b.is c.after.ensures c.statement-r.ensures c.in-At-r.is (omega (arith, c.requires.ready.room, c.l_exp-a.auto.draft)) c.fix.ensures
 
 pub looped-guarded-a-requires : goal.looped-guarded-a-requires
-looped-guarded-a-requires t c = (omega (arith, c.decreases), (c.requires.ready, has_while c.requires.i_value c.requires.has_stmt))
+looped-guarded-a-requires t c = (omega (arith, c.decreases), (c.requires.ready, has_while c.requires.has_kind c.requires.has_stmt))
 
 pub looped-returns-in_default : goal.looped-returns-in_default
-looped-returns-in_default t c = while_stop _ c.requires.i_value c.guarded-a.ensures _ (stops c.in_default.is)
+looped-returns-in_default t c = while_stop _ c.requires.has_kind c.guarded-a.ensures _ (stops c.in_default.is)
 
 pub looped-overflow_cast-n : goal.looped-overflow_cast-n
 looped-overflow_cast-n t c = omega (arith, c.requires.ready.most)
@@ -203,7 +203,7 @@ pub looped-shape_of-draft : goal.looped-shape_of-draft
 looped-shape_of-draft t c = c.emit.auto.draft ∙ c.guarded-a.auto.draft
 
 pub looped-returns : goal.looped-returns
-looped-returns t c = while_made _ c.requires.i_value c.guarded-a.ensures c.requires.ready.most c.in-At.is (c.emit.ensures JMP refl)
+looped-returns t c = while_made _ c.requires.has_kind c.guarded-a.ensures c.requires.ready.most c.in-At.is (c.emit.ensures JMP refl)
 
 pub statement-offset_bounds-tree-i : goal.statement-offset_bounds-tree-i
 statement-offset_bounds-tree-i t c = omega (arith, stmt_fits c.requires.has_stmt.at, c.well_formed)
@@ -216,7 +216,7 @@ statement-assign-requires t c =
     record {
       ready = c.requires.ready;
       has_stmt = c.requires.has_stmt;
-      i_value = c.if-kind-eq-ASSIGN.true;
+      has_kind = c.if-kind-eq-ASSIGN.true;
     }
 
 pub statement-returns-then-kind-eq-ASSIGN : goal.statement-returns-then-kind-eq-ASSIGN
@@ -239,7 +239,7 @@ statement-call-requires t c =
     record {
       ready = c.requires.ready;
       has_stmt = c.requires.has_stmt;
-      i_value = c.if-kind-eq-CALL.true;
+      has_kind = c.if-kind-eq-CALL.true;
     }
 
 pub statement-returns-then-kind-eq-CALL : goal.statement-returns-then-kind-eq-CALL
@@ -256,7 +256,7 @@ statement-read-requires t c =
     record {
       ready = c.requires.ready;
       has_stmt = c.requires.has_stmt;
-      i_value = c.if-kind-eq-READ.true;
+      has_kind = c.if-kind-eq-READ.true;
     }
 
 pub statement-returns-then-kind-eq-READ : goal.statement-returns-then-kind-eq-READ
@@ -267,7 +267,7 @@ statement-write-requires t c =
     record {
       ready = c.requires.ready;
       has_stmt = c.requires.has_stmt;
-      i_value = is_write_lem c.if-kind-eq-ASSIGN.false c.if-kind-eq-IF.false c.if-kind-eq-WHILE.false c.if-kind-eq-CALL.false c.if-kind-eq-BODY.false c.if-kind-eq-READ.false c.requires.has_stmt.at;
+      has_kind = is_write_lem c.if-kind-eq-ASSIGN.false c.if-kind-eq-IF.false c.if-kind-eq-WHILE.false c.if-kind-eq-CALL.false c.if-kind-eq-BODY.false c.if-kind-eq-READ.false c.requires.has_stmt.at;
     }
 
 pub statement-returns : goal.statement-returns

@@ -7,20 +7,20 @@ use Rattle.emission.proofs.Stmts.{call_in, the_call, args_start, args_empty}
 use Rattle.emission.proofs.statements.args.Goals as goal
 
 pub overflow_add-i : goal.overflow_add-i
-overflow_add-i c = omega (arith, (call_in c.requires.i_value c.requires.has_stmt).1, c.well_formed)
+overflow_add-i c = omega (arith, (call_in c.requires.has_kind c.requires.has_stmt).1, c.well_formed)
 
 pub number_at-count-requires : goal.number_at-count-requires
-number_at-count-requires c = omega (arith, (call_in c.requires.i_value c.requires.has_stmt).1, c.well_formed)
+number_at-count-requires c = omega (arith, (call_in c.requires.has_kind c.requires.has_stmt).1, c.well_formed)
 
 pub overflow_add-j : goal.overflow_add-j
-overflow_add-j c = omega (arith, (call_in c.requires.i_value c.requires.has_stmt).1, c.well_formed)
+overflow_add-j c = omega (arith, (call_in c.requires.has_kind c.requires.has_stmt).1, c.well_formed)
 
 pub loop-k-init : goal.loop-k-init
 loop-k-init c = (refl, args_start _ _ _ _ _ _ _ c.number_at-count.ensures c.requires.ready.most)
 
 pub exp-r-requires : goal.exp-r-requires
 exp-r-requires c =
-    let w = the_call c.requires.i_value c.requires.has_stmt in
+    let w = the_call c.requires.has_kind c.requires.has_stmt in
     let d = loop_head _ _ _ _ _ _ _ _ _ c.loop-k.invariant.1 c.loop-k-test.true w.0 w.1 in
     record {
       ready = record { known = c.requires.ready.known; room = omega (arith, c.requires.ready.room, c.loop-k.invariant.0); most = d.most };
@@ -35,7 +35,7 @@ returns-in_default c = λ f es a. loop_stop _ _ _ _ _ _ _ _ _ c.loop-k.invariant
 
 pub after-j-requires : goal.after-j-requires
 after-j-requires c =
-    let w = the_call c.requires.i_value c.requires.has_stmt in
+    let w = the_call c.requires.has_kind c.requires.has_stmt in
     let d = loop_head _ _ _ _ _ _ _ _ _ c.loop-k.invariant.1 c.loop-k-test.true w.0 w.1 in
     (_, d.stands)
 

@@ -20,7 +20,7 @@ pub overflow_add-j : goal.overflow_add-j
 overflow_add-j c = omega (arith, stmt_fits c.requires.has_stmt.at, c.well_formed)
 
 pub loop-k-init : goal.loop-k-init
-loop-k-init c = (refl, writes_start _ _ _ _ _ _ _ c.requires.i_value c.number_at-count.ensures c.requires.ready.most)
+loop-k-init c = (refl, writes_start _ _ _ _ _ _ _ c.requires.has_kind c.number_at-count.ensures c.requires.ready.most)
 
 pub operated-r-requires : goal.operated-r-requires
 operated-r-requires c =

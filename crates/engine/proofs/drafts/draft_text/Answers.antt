@@ -27,16 +27,16 @@ returns-in-Tree c =
     let n : length c.translate.new.draft ≡ 16384 = c.translate.auto.draft ∙ length-take-le 16384 c.args.draft.now c.requires.draft_places_in_bounds in
     record {
       drafting = drafting _ _ s (take_at _ _ 6144 m) (take_at _ _ 16384 n) (c.translate.ensures s.block s.at);
-      tree_unchanged = c.parse-p.ensures.beyond;
-      table_unchanged = drop_at c.translate.new.table _ 6144 m;
-      draft_unchanged = drop_at c.translate.new.draft _ 16384 n;
+      past_tree_kept = c.parse-p.ensures.beyond;
+      past_table_kept = drop_at c.translate.new.table _ 6144 m;
+      past_draft_kept = drop_at c.translate.new.draft _ 16384 n;
     }
 
 pub returns-in-Refused : goal.returns-in-Refused
 returns-in-Refused c =
     record {
       drafting = passed_on _ _ c.requires.tree_places_in_bounds c.parse-p.ensures c.in-Refused.is;
-      tree_unchanged = c.parse-p.ensures.beyond;
-      table_unchanged = refl;
-      draft_unchanged = refl;
+      past_tree_kept = c.parse-p.ensures.beyond;
+      past_table_kept = refl;
+      past_draft_kept = refl;
     }

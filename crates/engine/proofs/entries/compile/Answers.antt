@@ -44,4 +44,4 @@ returns c =
     let d = rw (sym c.length_in-n.ensures) at t.stands in
     roomy _ _ _ (sym c.holds_code.ensures ∙ not-false _ c.if-not-holds_code.false-raw) (sym c.holds_work.ensures ∙ not-false _ c.if-not-holds_work.false-raw)
     (leaves _ _ _ _ _ _ c.draft_text-t.new.tree c.draft_text-t.new.table t c.number_in.ensures c.length_in-n.ensures (c.hand_out.ensures.kinds_after l d) (c.hand_out.ensures.levels_after l d) (c.hand_out.ensures.operands_after l d)
-    (record { beyond = c.draft_text-t.ensures.tree_unchanged; zeros = c.wipe.ensures.tree_after }) (record { beyond = c.draft_text-t.ensures.table_unchanged; zeros = c.wipe.ensures.table_after }) (record { beyond = c.draft_text-t.ensures.draft_unchanged; zeros = c.wipe.ensures.draft_after }))
+    (record { beyond = c.draft_text-t.ensures.past_tree_kept; zeros = c.wipe.ensures.tree_after }) (record { beyond = c.draft_text-t.ensures.past_table_kept; zeros = c.wipe.ensures.table_after }) (record { beyond = c.draft_text-t.ensures.past_draft_kept; zeros = c.wipe.ensures.draft_after }))

@@ -24,9 +24,9 @@ pub walk_drafted-e-requires : goal.walk_drafted-e-requires
 walk_drafted-e-requires c =
     let (a, (b, d)) = all_long 98400 (length c.args.tree.now) 6144 (length c.args.table.now) 16384 (length c.args.draft.now) (sym c.holds_work.ensures ∙ not-false _ c.if-not-holds_work.false-raw) in
     record {
-      by_index = (_, c.draft_text-t.ensures.drafting);
+      drafted = (_, c.draft_text-t.ensures.drafting);
       table_places_in_bounds = omega (arith, b, c.draft_text-t.auto.table);
-      vars_value = zeros_stay c.args.vars.now (filling_whole 512 (pos 0) c.args.vars.now c.clear_i64.ensures);
+      vars_cleared = zeros_stay c.args.vars.now (filling_whole 512 (pos 0) c.args.vars.now c.clear_i64.ensures);
     }
 
 pub wipe-requires : goal.wipe-requires
@@ -42,4 +42,4 @@ pub returns : goal.returns
 returns c =
     roomy_walk _ _ _ _ _ _ c.if-vars-lt-VARIABLES.false (sym c.holds_work.ensures ∙ not-false _ c.if-not-holds_work.false-raw)
     (all_left _ _ _ _ _ c.draft_text-t.new.tree c.draft_text-t.new.table c.draft_text-t.new.draft (filling_whole 512 (pos 0) c.args.vars.now c.clear_i64.ensures) c.walk_drafted-e.ensures
-    (record { beyond = c.draft_text-t.ensures.tree_unchanged; zeros = c.wipe.ensures.tree_after }) (record { beyond = c.draft_text-t.ensures.table_unchanged; zeros = c.wipe.ensures.table_after }) (record { beyond = c.draft_text-t.ensures.draft_unchanged; zeros = c.wipe.ensures.draft_after }))
+    (record { beyond = c.draft_text-t.ensures.past_tree_kept; zeros = c.wipe.ensures.tree_after }) (record { beyond = c.draft_text-t.ensures.past_table_kept; zeros = c.wipe.ensures.table_after }) (record { beyond = c.draft_text-t.ensures.past_draft_kept; zeros = c.wipe.ensures.draft_after }))

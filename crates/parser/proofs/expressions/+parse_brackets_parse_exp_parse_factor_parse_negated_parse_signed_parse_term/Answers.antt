@@ -165,7 +165,7 @@ parse_factor-push_number-requires t c =
     let z = literal_of_lem w _ c.in-Integer.is in
     record {
       used_in_bounds = omega (arith, c.requires.room, w.fewer);
-      by_index = (_, literal_pos z.0);
+      not_negative = (_, literal_pos z.0);
     }
 
 pub parse_factor-overflow_add-depth : goal.parse_factor-overflow_add-depth
@@ -190,7 +190,7 @@ unfolding place_of
 parse_factor-returns-in-Integer t c =
     let w = (saw c.see-s.ensures c.in-At.is c.requires.place c.requires.stands).1 in
     let e = c.in-Integer.is in
-    factor_number _ _ c.see-s.ensures c.in-At.is c.take-in-Integer.ensures (one_fewer c.requires c.see-s.ensures c.in-At.is c.take-in-Integer.ensures) (omega (arith, c.requires.room)) c.push_number.ensures.value _ _ e (c.push_number.ensures.by_index_2 _ (literal_pos (literal_of_lem w _ e).0))
+    factor_number _ _ c.see-s.ensures c.in-At.is c.take-in-Integer.ensures (one_fewer c.requires c.see-s.ensures c.in-At.is c.take-in-Integer.ensures) (omega (arith, c.requires.room)) c.push_number.ensures.next _ _ e (c.push_number.ensures.literal_behind _ (literal_pos (literal_of_lem w _ e).0))
 
 pub parse_factor-returns-then-depth-lt-MAX_OPEN : goal.parse_factor-returns-then-depth-lt-MAX_OPEN
 unfolding place_of

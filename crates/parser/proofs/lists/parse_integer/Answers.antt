@@ -23,11 +23,11 @@ push_number-requires c =
     let z = literal_of_lem w _ c.in-Integer.is in
     record {
       used_in_bounds = omega (arith, c.requires.room, w.fewer);
-      by_index = (_, literal_pos z.0);
+      not_negative = (_, literal_pos z.0);
     }
 
 pub returns : goal.returns
 returns c =
     let w = (saw c.see-s.ensures c.in-At.is c.requires.place c.requires.stands).1 in
     let e = c.in-Integer.is in
-    number_there c.see-s.ensures c.in-At.is c.take.ensures (one_fewer c.requires c.see-s.ensures c.in-At.is c.take.ensures) (omega (arith, c.requires.room)) c.push_number.ensures.value _ e (c.push_number.ensures.by_index_2 _ (literal_pos (literal_of_lem w _ e).0))
+    number_there c.see-s.ensures c.in-At.is c.take.ensures (one_fewer c.requires c.see-s.ensures c.in-At.is c.take.ensures) (omega (arith, c.requires.room)) c.push_number.ensures.next _ e (c.push_number.ensures.literal_behind _ (literal_pos (literal_of_lem w _ e).0))

@@ -20,5 +20,5 @@ pub returns : goal.returns
 returns c =
     record {
       seen = look_seen _ _ _ _ c.requires.linked c.requires.scope_le_used c.clear.ensures _ c.mark.ensures _ c.open_rows.ensures;
-      by_index = λ s g. look_became s _ _ _ (look_plain _ _ _ _ c.requires.linked c.requires.scope_le_used c.clear.ensures _ c.mark.ensures _ c.open_rows.ensures) g;
+      rows_stay = λ s g. look_became s _ _ _ (look_plain _ _ _ _ c.requires.linked c.requires.scope_le_used c.clear.ensures _ c.mark.ensures _ c.open_rows.ensures) g;
     }

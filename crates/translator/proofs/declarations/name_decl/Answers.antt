@@ -19,7 +19,7 @@ pub add-requires : goal.add-requires
 add-requires c =
     record {
       declares = var_declares c.variable-y.ensures c.requires.can c.requires.has_name;
-      scope_value = no_procedure _ (ap (λ (y : Symbol). y.kind) c.variable-y.ensures);
+      new_procedure = no_procedure _ (ap (λ (y : Symbol). y.kind) c.variable-y.ensures);
     }
 
 pub returns : goal.returns

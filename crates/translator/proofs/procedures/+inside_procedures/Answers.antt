@@ -246,7 +246,7 @@ procedures-ending-e-requires t c =
     let m = has_nested c.if-tree-i-eq-NO_PROCEDURES.false c.requires.has_procs in
     let t = entered c.args.text.now c.args.tree.now c.args.table.now c.args.draft.now c.args.i c.args.p c.requires.start m.at (c.heading-h.ensures m.name m.args m.at.heading) c.in-At.is (c.emit-j.ensures JMP refl) c.in-At-j.is (c.inside-d.ensures m.consts m.vars m.inner (m.at.inside c.after-consts.ensures)) c.in-Finished.is in
     let w = c.set_entry.ensures c.args.text.now _ t.3 t.0 in
-    let v = c.see.ensures.by_index c.args.text.now w.sound in
+    let v = c.see.ensures.rows_stay c.args.text.now w.sound in
     record {
       ready = record { known = env_known c.args.text.now c.args.tree.now c.args.table.now c.args.draft.now c.args.i c.args.p c.requires.start m.at (c.heading-h.ensures m.name m.args m.at.heading) c.in-At.is (c.emit-j.ensures JMP refl) c.in-At-j.is (c.inside-d.ensures m.consts m.vars m.inner (m.at.inside c.after-consts.ensures)) c.in-Finished.is w v c.see.ensures.seen; room = omega (arith, c.requires.start.room, c.fix.auto.draft ∙ c.inside-d.auto.draft ∙ c.emit-j.auto.draft); most = t.2 };
       has_body = record { stmts = m.stmts; at = m.at.body c.after-consts.ensures c.after.ensures c.after-2.ensures c.after-main.ensures };
@@ -266,7 +266,7 @@ procedures-returns-in_default-e t c =
     of_proc _ c.if-tree-i-eq-NO_PROCEDURES.false (λ n ar cs vs inner b later x.
     let t = entered c.args.text.now c.args.tree.now c.args.table.now c.args.draft.now c.args.i c.args.p c.requires.start (x) (c.heading-h.ensures n ar x.heading) c.in-At.is (c.emit-j.ensures JMP refl) c.in-At-j.is (c.inside-d.ensures cs vs inner (x.inside c.after-consts.ensures)) c.in-Finished.is in
     let w = c.set_entry.ensures c.args.text.now _ t.3 t.0 in
-    let v = c.see.ensures.by_index c.args.text.now w.sound in
+    let v = c.see.ensures.rows_stay c.args.text.now w.sound in
     end_stop c.args.text.now c.args.tree.now c.args.table.now c.args.draft.now c.args.i c.args.p c.requires.start (x) (c.heading-h.ensures n ar x.heading) c.in-At.is (c.emit-j.ensures JMP refl) c.in-At-j.is (c.inside-d.ensures cs vs inner (x.inside c.after-consts.ensures)) c.in-Finished.is w v c.fix.ensures (c.ending-e.ensures b (x.body c.after-consts.ensures c.after.ensures c.after-2.ensures c.after-main.ensures)) (stops c.in_default-e.is) c.refused-in_default-e.ensures)
 
 pub procedures-overflow_add-later : goal.procedures-overflow_add-later
@@ -283,7 +283,7 @@ procedures-procedures-requires t c =
     let m = has_nested c.if-tree-i-eq-NO_PROCEDURES.false c.requires.has_procs in
     let t = entered c.args.text.now c.args.tree.now c.args.table.now c.args.draft.now c.args.i c.args.p c.requires.start m.at (c.heading-h.ensures m.name m.args m.at.heading) c.in-At.is (c.emit-j.ensures JMP refl) c.in-At-j.is (c.inside-d.ensures m.consts m.vars m.inner (m.at.inside c.after-consts.ensures)) c.in-Finished.is in
     let w = c.set_entry.ensures c.args.text.now _ t.3 t.0 in
-    let v = c.see.ensures.by_index c.args.text.now w.sound in
+    let v = c.see.ensures.rows_stay c.args.text.now w.sound in
     let f = m.at.later_fits c.after-consts.ensures c.after.ensures c.after-2.ensures c.after-main.ensures c.after-3.ensures in
     (omega (arith, c.decreases, f.0, f.1), (later_start c.args.text.now c.args.tree.now c.args.table.now c.args.draft.now c.args.i c.args.p c.requires.start m.at (c.heading-h.ensures m.name m.args m.at.heading) c.in-At.is (c.emit-j.ensures JMP refl) c.in-At-j.is (c.inside-d.ensures m.consts m.vars m.inner (m.at.inside c.after-consts.ensures)) c.in-Finished.is w v c.fix.ensures (c.ending-e.ensures m.stmts (m.at.body c.after-consts.ensures c.after.ensures c.after-2.ensures c.after-main.ensures)) c.in-At-e.is (c.ending-e.auto.draft ∙ c.fix.auto.draft ∙ c.inside-d.auto.draft ∙ c.emit-j.auto.draft), record { procs = m.later; at = m.at.later_at c.after-consts.ensures c.after.ensures c.after-2.ensures c.after-main.ensures c.after-3.ensures }))
 
@@ -300,5 +300,5 @@ procedures-returns t c =
     of_proc _ c.if-tree-i-eq-NO_PROCEDURES.false (λ n ar cs vs inner b later x.
     let t = entered c.args.text.now c.args.tree.now c.args.table.now c.args.draft.now c.args.i c.args.p c.requires.start (x) (c.heading-h.ensures n ar x.heading) c.in-At.is (c.emit-j.ensures JMP refl) c.in-At-j.is (c.inside-d.ensures cs vs inner (x.inside c.after-consts.ensures)) c.in-Finished.is in
     let w = c.set_entry.ensures c.args.text.now _ t.3 t.0 in
-    let v = c.see.ensures.by_index c.args.text.now w.sound in
+    let v = c.see.ensures.rows_stay c.args.text.now w.sound in
     later_made c.args.text.now c.args.tree.now c.args.table.now c.args.draft.now c.args.i c.args.p c.requires.start (x) (c.heading-h.ensures n ar x.heading) c.in-At.is (c.emit-j.ensures JMP refl) c.in-At-j.is (c.inside-d.ensures cs vs inner (x.inside c.after-consts.ensures)) c.in-Finished.is w v c.fix.ensures (c.ending-e.ensures b (x.body c.after-consts.ensures c.after.ensures c.after-2.ensures c.after-main.ensures)) c.in-At-e.is (c.procedures.ensures later (x.later_at c.after-consts.ensures c.after.ensures c.after-2.ensures c.after-main.ensures c.after-3.ensures)))

@@ -56,7 +56,7 @@ pub finish-e-requires : goal.finish-e-requires
 finish-e-requires c =
     let t = entered c.args.text.now c.args.tree.now c.args.table.now c.args.draft.now c.requires.table_places_in_bounds.0 c.requires.table_places_in_bounds.1 (c.emit-j.ensures JMP refl) c.in-At.is c.requires.has_block.block (c.inside-d.ensures _ _ _ (block_inside c.requires.has_block.at)) c.in-Finished.is in
     record {
-      ready = record { known = env_known c.args.text.now c.args.tree.now c.args.table.now c.args.draft.now c.requires.table_places_in_bounds.0 c.requires.table_places_in_bounds.1 (c.emit-j.ensures JMP refl) c.in-At.is c.requires.has_block.block (c.inside-d.ensures _ _ _ (block_inside c.requires.has_block.at)) c.in-Finished.is (c.see.ensures.by_index c.args.text.now t.0) c.see.ensures.seen c.fix.ensures; room = omega (arith, c.requires.table_places_in_bounds.1, c.fix.auto.draft, c.inside-d.auto.draft, c.emit-j.auto.draft); most = t.1 };
+      ready = record { known = env_known c.args.text.now c.args.tree.now c.args.table.now c.args.draft.now c.requires.table_places_in_bounds.0 c.requires.table_places_in_bounds.1 (c.emit-j.ensures JMP refl) c.in-At.is c.requires.has_block.block (c.inside-d.ensures _ _ _ (block_inside c.requires.has_block.at)) c.in-Finished.is (c.see.ensures.rows_stay c.args.text.now t.0) c.see.ensures.seen c.fix.ensures; room = omega (arith, c.requires.table_places_in_bounds.1, c.fix.auto.draft, c.inside-d.auto.draft, c.emit-j.auto.draft); most = t.1 };
       has_body = has_main c.after.ensures c.after-2.ensures c.after-main.ensures c.requires.has_block;
     }
 
@@ -69,7 +69,7 @@ shape_of-draft-in_default-e c = c.finish-e.auto.draft ∙ c.fix.auto.draft ∙ c
 pub returns-in_default-e : goal.returns-in_default-e
 returns-in_default-e c = λ b a.
     let t = entered c.args.text.now c.args.tree.now c.args.table.now c.args.draft.now c.requires.table_places_in_bounds.0 c.requires.table_places_in_bounds.1 (c.emit-j.ensures JMP refl) c.in-At.is b (c.inside-d.ensures _ _ _ (block_inside a)) c.in-Finished.is in
-    body_stop c.args.text.now c.args.tree.now c.args.table.now c.args.draft.now c.requires.table_places_in_bounds.0 c.requires.table_places_in_bounds.1 (c.emit-j.ensures JMP refl) c.in-At.is b (c.inside-d.ensures _ _ _ (block_inside a)) c.in-Finished.is (c.see.ensures.by_index c.args.text.now t.0) c.see.ensures.seen c.fix.ensures (c.finish-e.ensures b.main (block_body a c.after.ensures c.after-2.ensures c.after-main.ensures)) (stops c.in_default-e.is) c.refused-in_default-e.ensures
+    body_stop c.args.text.now c.args.tree.now c.args.table.now c.args.draft.now c.requires.table_places_in_bounds.0 c.requires.table_places_in_bounds.1 (c.emit-j.ensures JMP refl) c.in-At.is b (c.inside-d.ensures _ _ _ (block_inside a)) c.in-Finished.is (c.see.ensures.rows_stay c.args.text.now t.0) c.see.ensures.seen c.fix.ensures (c.finish-e.ensures b.main (block_body a c.after.ensures c.after-2.ensures c.after-main.ensures)) (stops c.in_default-e.is) c.refused-in_default-e.ensures
 
 pub shape_of-table : goal.shape_of-table
 shape_of-table c = c.see.auto.table ∙ c.inside-d.auto.table
@@ -80,4 +80,4 @@ shape_of-draft c = c.finish-e.auto.draft ∙ c.fix.auto.draft ∙ c.inside-d.aut
 pub returns : goal.returns
 returns c = λ b a.
     let t = entered c.args.text.now c.args.tree.now c.args.table.now c.args.draft.now c.requires.table_places_in_bounds.0 c.requires.table_places_in_bounds.1 (c.emit-j.ensures JMP refl) c.in-At.is b (c.inside-d.ensures _ _ _ (block_inside a)) c.in-Finished.is in
-    body_made c.args.text.now c.args.tree.now c.args.table.now c.args.draft.now c.requires.table_places_in_bounds.0 c.requires.table_places_in_bounds.1 (c.emit-j.ensures JMP refl) c.in-At.is b (c.inside-d.ensures _ _ _ (block_inside a)) c.in-Finished.is (c.see.ensures.by_index c.args.text.now t.0) c.see.ensures.seen c.fix.ensures (c.finish-e.ensures b.main (block_body a c.after.ensures c.after-2.ensures c.after-main.ensures)) c.in-At-e.is
+    body_made c.args.text.now c.args.tree.now c.args.table.now c.args.draft.now c.requires.table_places_in_bounds.0 c.requires.table_places_in_bounds.1 (c.emit-j.ensures JMP refl) c.in-At.is b (c.inside-d.ensures _ _ _ (block_inside a)) c.in-Finished.is (c.see.ensures.rows_stay c.args.text.now t.0) c.see.ensures.seen c.fix.ensures (c.finish-e.ensures b.main (block_body a c.after.ensures c.after-2.ensures c.after-main.ensures)) c.in-At-e.is

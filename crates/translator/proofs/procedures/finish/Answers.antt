@@ -19,7 +19,7 @@ body-b-requires c =
     record {
       ready = record { known = c.requires.ready.known; room = omega (arith, c.requires.ready.room, c.emit-a.auto.draft); most = omega (arith, w.below, w.ends) };
       has_stmt = has_stmt c.requires.has_body;
-      i_value = is_body_lem c.requires.has_body;
+      has_kind = is_body_lem c.requires.has_body;
     }
 
 pub shape_of-draft-in_default-b : goal.shape_of-draft-in_default-b

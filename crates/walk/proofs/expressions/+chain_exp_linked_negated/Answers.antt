@@ -16,29 +16,29 @@ pub chain-number_at-count-requires : goal.chain-number_at-count-requires
 chain-number_at-count-requires t c = omega (linear, exp_fits c.requires.has_exp.at, c.well_formed)
 
 pub chain-exp-r-requires : goal.chain-exp-r-requires
-chain-exp-r-requires t c = (omega (linear, c.decreases, exp_fits c.requires.has_exp.at), (c.requires.known, has_first c.requires.i_value c.requires.has_exp))
+chain-exp-r-requires t c = (omega (linear, c.decreases, exp_fits c.requires.has_exp.at), (c.requires.known, has_first c.requires.has_kind c.requires.has_exp))
 
 pub chain-returns-in_default : goal.chain-returns-in_default
-chain-returns-in_default t c = chain_stop _ _ _ _ _ _ c.args.c c.requires.i_value c.exp-r.ensures c.in_default.is
+chain-returns-in_default t c = chain_stop _ _ _ _ _ _ c.args.c c.requires.has_kind c.exp-r.ensures c.in_default.is
 
 pub chain-after-j-requires : goal.chain-after-j-requires
-chain-after-j-requires t c = (_, (has_first c.requires.i_value c.requires.has_exp).at.stands)
+chain-after-j-requires t c = (_, (has_first c.requires.has_kind c.requires.has_exp).at.stands)
 
 pub chain-loop-k-init : goal.chain-loop-k-init
 chain-loop-k-init t c = chain_start _ _ _ _ _ _ _ _ _ _ c.number_at-count.ensures c.after-j.ensures
 
 pub chain-linked-q-requires : goal.chain-linked-q-requires
 chain-linked-q-requires t c =
-    let w = the_chain c.requires.i_value c.requires.has_exp in
+    let w = the_chain c.requires.has_kind c.requires.has_exp in
     let d = next_in _ _ _ _ c.args.env _ _ _ _ _ _ _ _ c.loop-k.invariant c.loop-k-test.true w.1 in
     (omega (linear, c.decreases, d.fits, d.beyond), (c.requires.known, record { exp = d.exp; at = d.at }))
 
 pub chain-returns-in_default-q : goal.chain-returns-in_default-q
-chain-returns-in_default-q t c = chain_whole _ _ _ _ _ _ c.args.c c.requires.i_value c.exp-r.ensures c.in-Value.is (to_z-of_z w64 c.in-Value.first (search rules)) (chain_halt _ _ _ _ _ _ _ _ _ _ _ _ _ c.loop-k.invariant c.loop-k-test.true c.linked-q.ensures c.in_default-q.is)
+chain-returns-in_default-q t c = chain_whole _ _ _ _ _ _ c.args.c c.requires.has_kind c.exp-r.ensures c.in-Value.is (to_z-of_z w64 c.in-Value.first (search rules)) (chain_halt _ _ _ _ _ _ _ _ _ _ _ _ _ c.loop-k.invariant c.loop-k-test.true c.linked-q.ensures c.in_default-q.is)
 
 pub chain-after-j-requires-in-loop-k : goal.chain-after-j-requires-in-loop-k
 chain-after-j-requires-in-loop-k t c =
-    let w = the_chain c.requires.i_value c.requires.has_exp in
+    let w = the_chain c.requires.has_kind c.requires.has_exp in
     let d = next_in _ _ _ _ c.args.env _ _ _ _ _ _ _ _ c.loop-k.invariant c.loop-k-test.true w.1 in
     (_, d.at.stands)
 
@@ -48,7 +48,7 @@ chain-loop-k-preserved t c =
     chain_more _ _ _ _ _ _ _ _ _ _ _ _ _ c.loop-k.invariant c.loop-k-test.true c.linked-q.ensures c.in-Value-q.is (to_z-of_z w64 c.in-Value-q.z (search rules)) c.after-j-in-loop-k.ensures o.0 o.1
 
 pub chain-returns : goal.chain-returns
-chain-returns t c = chain_whole _ _ _ _ _ _ c.args.c c.requires.i_value c.exp-r.ensures c.in-Value.is (to_z-of_z w64 c.in-Value.first (search rules)) (chain_done _ _ _ _ _ _ _ _ _ _ _ _ _ c.loop-k.invariant c.loop-k-test.false)
+chain-returns t c = chain_whole _ _ _ _ _ _ c.args.c c.requires.has_kind c.exp-r.ensures c.in-Value.is (to_z-of_z w64 c.in-Value.first (search rules)) (chain_done _ _ _ _ _ _ _ _ _ _ _ _ _ c.loop-k.invariant c.loop-k-test.false)
 
 pub exp-offset_bounds-tree-i : goal.exp-offset_bounds-tree-i
 exp-offset_bounds-tree-i t c = omega (linear, exp_fits c.requires.has_exp.at, c.well_formed)

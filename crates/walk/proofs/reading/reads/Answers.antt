@@ -20,7 +20,7 @@ loop-k-init c = (refl, refl, reads_start _ _ _ c.args.env _ _ _ _ _ c.args.p c.n
 
 pub read_one-r-requires : goal.read_one-r-requires
 read_one-r-requires c =
-    let w = the_read c.requires.i_value c.requires.has_stmt in
+    let w = the_read c.requires.has_kind c.requires.has_stmt in
     let l = c.loop-k.invariant.2 w.0 w.1 in
     let n = along_next (ReadsF _ _) _ _ _ _ _ _ _ _ _ _ _ _ _ _ l c.loop-k-test.true in
     let h = along_held (ReadsF _ _) _ _ _ _ _ _ _ _ _ _ _ _ _ _ l c.requires.has_state in
@@ -32,11 +32,11 @@ read_one-r-requires c =
     }
 
 pub returns-in_default : goal.returns-in_default
-returns-in_default c = reads_whole _ _ _ _ c.args.env _ _ _ c.args.p c.requires.i_value (λ ns a. along_halt (ReadsF _ _) _ _ _ _ _ _ _ _ _ _ _ _ _ _ (c.loop-k.invariant.2 ns a) c.loop-k-test.true _ _ (λ m st nm. c.read_one-r.ensures m (record { stands = st; named = nm })) c.in_default.is)
+returns-in_default c = reads_whole _ _ _ _ c.args.env _ _ _ c.args.p c.requires.has_kind (λ ns a. along_halt (ReadsF _ _) _ _ _ _ _ _ _ _ _ _ _ _ _ _ (c.loop-k.invariant.2 ns a) c.loop-k-test.true _ _ (λ m st nm. c.read_one-r.ensures m (record { stands = st; named = nm })) c.in_default.is)
 
 pub after-j-requires : goal.after-j-requires
 after-j-requires c =
-    let w = the_read c.requires.i_value c.requires.has_stmt in
+    let w = the_read c.requires.has_kind c.requires.has_stmt in
     let l = c.loop-k.invariant.2 w.0 w.1 in
     let n = along_next (ReadsF _ _) _ _ _ _ _ _ _ _ _ _ _ _ _ _ l c.loop-k-test.true in
     (_, n.1.0)
@@ -51,4 +51,4 @@ pub loop-k-preserved : goal.loop-k-preserved
 loop-k-preserved c = (c.read_one-r.auto.vars ∙ c.loop-k.invariant.0, c.read_one-r.auto.out ∙ c.loop-k.invariant.1, λ ns a. along_more (ReadsF _ _) _ _ _ _ _ _ _ _ _ _ _ _ _ _ (c.loop-k.invariant.2 ns a) c.loop-k-test.true _ _ (λ m st nm. c.read_one-r.ensures m (record { stands = st; named = nm })) c.in-Done.is c.after-j.ensures)
 
 pub returns : goal.returns
-returns c = reads_whole _ _ _ _ c.args.env _ _ _ c.args.p c.requires.i_value (λ ns a lv lo w h. along_done (ReadsF _ _) _ _ _ _ _ _ _ _ _ _ _ _ _ _ (c.loop-k.invariant.2 ns a) lv lo w h _ _ _ c.loop-k-test.false _ (λ b v. refl) (λ v held. reads_end _ v held))
+returns c = reads_whole _ _ _ _ c.args.env _ _ _ c.args.p c.requires.has_kind (λ ns a lv lo w h. along_done (ReadsF _ _) _ _ _ _ _ _ _ _ _ _ _ _ _ _ (c.loop-k.invariant.2 ns a) lv lo w h _ _ _ c.loop-k-test.false _ (λ b v. refl) (λ v held. reads_end _ v held))

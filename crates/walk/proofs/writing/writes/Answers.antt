@@ -21,7 +21,7 @@ loop-k-init c = (refl, writes_start _ _ _ c.args.env _ _ _ _ c.args.p c.number_a
 
 pub write_one-r-requires : goal.write_one-r-requires
 write_one-r-requires c =
-    let w = the_write c.requires.i_value c.requires.has_stmt in
+    let w = the_write c.requires.has_kind c.requires.has_stmt in
     let n = along_next (WritesF _ _) _ _ _ _ _ _ _ _ _ _ _ _ _ _ (c.loop-k.invariant.1 w.0 w.1 []) c.loop-k-test.true in
     record {
       known = c.requires.known;
@@ -29,11 +29,11 @@ write_one-r-requires c =
     }
 
 pub returns-in_default : goal.returns-in_default
-returns-in_default c = writes_whole _ _ _ _ c.args.env _ _ c.args.p c.requires.i_value (λ es a input. along_halt (WritesF _ _) _ _ _ _ _ _ _ _ _ _ _ _ _ _ (c.loop-k.invariant.1 es a input) c.loop-k-test.true _ _ (λ m st nm. c.write_one-r.ensures m (record { op = 0; stands = st; named = nm }) input) c.in_default.is)
+returns-in_default c = writes_whole _ _ _ _ c.args.env _ _ c.args.p c.requires.has_kind (λ es a input. along_halt (WritesF _ _) _ _ _ _ _ _ _ _ _ _ _ _ _ _ (c.loop-k.invariant.1 es a input) c.loop-k-test.true _ _ (λ m st nm. c.write_one-r.ensures m (record { op = 0; stands = st; named = nm }) input) c.in_default.is)
 
 pub after-j-requires : goal.after-j-requires
 after-j-requires c =
-    let w = the_write c.requires.i_value c.requires.has_stmt in
+    let w = the_write c.requires.has_kind c.requires.has_stmt in
     let n = along_next (WritesF _ _) _ _ _ _ _ _ _ _ _ _ _ _ _ _ (c.loop-k.invariant.1 w.0 w.1 []) c.loop-k-test.true in
     (_, n.1.0)
 
@@ -47,4 +47,4 @@ pub loop-k-preserved : goal.loop-k-preserved
 loop-k-preserved c = (c.write_one-r.auto.out ∙ c.loop-k.invariant.0, λ es a input. along_more (WritesF _ _) _ _ _ _ _ _ _ _ _ _ _ _ _ _ (c.loop-k.invariant.1 es a input) c.loop-k-test.true _ _ (λ m st nm. c.write_one-r.ensures m (record { op = 0; stands = st; named = nm }) input) c.in-Done.is c.after-j.ensures)
 
 pub returns : goal.returns
-returns c = writes_whole _ _ _ _ c.args.env _ _ c.args.p c.requires.i_value (λ es a input lv lo w h. along_done (WritesF _ _) _ _ _ _ _ _ _ _ _ _ _ _ _ _ (c.loop-k.invariant.1 es a input) lv lo w h _ _ _ c.loop-k-test.false _ (λ b v. refl) (λ v held. writes_end _ c.write_line.ensures v held))
+returns c = writes_whole _ _ _ _ c.args.env _ _ c.args.p c.requires.has_kind (λ es a input lv lo w h. along_done (WritesF _ _) _ _ _ _ _ _ _ _ _ _ _ _ _ _ (c.loop-k.invariant.1 es a input) lv lo w h _ _ _ c.loop-k-test.false _ (λ b v. refl) (λ v held. writes_end _ c.write_line.ensures v held))
