@@ -1,7 +1,7 @@
 /* Loopgarret: compile, run and walk PL/0 rule sheets, and list their code.
  *
  * Four functions. It is proved of each that, whatever is lent and whatever it holds, it returns, touches nothing that it was
- * not lent, and leaves every lent list exactly as said below: the contracts in crates/engine/src/exports.rt say it in full.
+ * not lent, and leaves every lent list exactly as said below: the contracts in crates/engine_c/src/lib.rt say it in full.
  * Nothing is kept between calls, so calls on different lists may go on side by side.
  *
  * A list is lent as a pointer and a count of its elements; each function tests the counts itself. A pointer with the count 0 may
@@ -11,8 +11,8 @@
  * Every answer has a number: LOOPGARRET_DONE, or the one reason of the refusal (the table below). LOOPGARRET_ROOM_TOO_SMALL comes
  * before every other, and after it nothing lent has changed.
  *
- * The library is target/staticlib/libengine.a, for x86-64, made by `rt staticlib engine`; of the C library it needs memcpy and
- * memset. examples/run builds examples in C and in Rust with it.
+ * The library is made by `rt lib` in crates/engine_c, for x86-64; of the C library it needs at most memcpy and memset.
+ * examples/run copies it to target/staticlib/libengine.a, and builds examples in C and in Rust with it.
  *
  * Stack and time are no part of the proof. Calls nest at most once for each of 64 open constructs, and never by the length of a
  * sheet or the steps of a run. On x86-64 a thread with 118,784 bytes of stack was enough for compile and for walk, and one with
