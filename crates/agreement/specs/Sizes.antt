@@ -16,7 +16,7 @@ use Rattle.machine.specs.Outcome.{RunOutcome, run_leaves, run_outcome}
 use Rattle.numbers.specs.Lent.{holds, onto, filled}
 use Rattle.outcomes.specs.Outcomes.{code_holds, CompileOutcome, compile_leaves, compile_outcome, WalkOutcome, walk_leaves, walk_outcome, Work, work_holds, cleared}
 use Rattle.agreement.specs.Program.{Agrees, standing}
-use Rattle.outcomes.specs.Accepted.{accepted_shape}
+use Rattle.outcomes.proofs.Accepted.{accepted_shape}
 use Rattle.agreement.specs.Texts.{taken, block_agrees}
 
 pub code_fits : (src : List ℕ) → length (code_of (compile src)) ≤ max_code

@@ -10,7 +10,7 @@ use Rattle.numbers.specs.Bytes.{is_ascii, every}
 use Rattle.lexer.specs.Tokens.{Name}
 use Rattle.grammar.specs.Grammar.{parse, Parsed, tree, refused}
 use Rattle.grammar.specs.Source.{reading}
-use Rattle.grammar.specs.Refusals.{parse_refuses}
+use Rattle.grammar.proofs.Refusals.{parse_refuses}
 use Rattle.tree.specs.Tree.{Exp, call, no_procs, Block}
 use Rattle.pcode.specs.Operators.{return}
 use Rattle.pcode.specs.Code.{INT, JMP, Instr, ins}
@@ -22,7 +22,7 @@ use Rattle.translator.specs.Translate.{Done, finished, failed, block_code}
 use Rattle.machine.specs.Machine.{Ended, run, run_of, start}
 use Rattle.walk.specs.Walk.{walk_main, Walked, walked, begin, declared_rows, walk_block}
 use Rattle.outcomes.specs.Compile.{accepted, not_accepted, number_of, code_of, compile, from_tree, translated, walk_after, walk_parsed, walk_unless, walk}
-use Rattle.outcomes.specs.Accepted.{behind, accepted_shape}
+use Rattle.outcomes.proofs.Accepted.{behind, accepted_shape}
 use Rattle.agreement.specs.Declared.{const_rows_lem, var_rows_lem, sound_rows}
 use Rattle.agreement.specs.Exprs.{main}
 use Rattle.agreement.specs.InStep.{frame}

@@ -10,7 +10,7 @@ use Rattle.grammar.specs.Source.{reading}
 use Rattle.parser.specs.Entry.{Answers, answers, Parses}
 use Rattle.parser.specs.declared.Parsed.{Parsed}
 use Rattle.parser.specs.declared.Parsed.TheVariants.{Tree, Refused as Declined}
-use Rattle.grammar.specs.Names.{parse_named}
+use Rattle.grammar.proofs.Names.{parse_named}
 use Rattle.translator.specs.declared.Translated.{Translated}
 use Rattle.translator.specs.declared.Translated.TheVariants.{Refused}
 use Rattle.translator.specs.Blocks.{BlockAt}

@@ -13,7 +13,8 @@ use Rattle.emission.specs.Draft.{drafted}
 use Rattle.engine.specs.declared.entries.Compiled.{Compiled as Answer}
 use Rattle.outcomes.specs.Compile.{Compiled, accepted, not_accepted, number_of, code_of, compile}
 use Rattle.outcomes.specs.Outcomes.{CompileOutcome}
-use Rattle.outcomes.specs.Accepted.{accepted_shape, accepts}
+use Rattle.outcomes.specs.Accepted.{accepts}
+use Rattle.outcomes.proofs.Accepted.{accepted_shape}
 use Rattle.engine.specs.Handing.{Drafts, shape_drafts, no_drafts}
 
 -- a text was read and translated: its tree stands in the working room, with its k symbol rows and its n instructions

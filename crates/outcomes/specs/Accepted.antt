@@ -4,16 +4,13 @@
 use Rattle.std.specs.Prelude.{◌≡◌, refl, Bool, true, false, List, ℕ, leb, length}
 use Rattle.std.proofs.Common.{ap, ◌∙◌, arith}
 use Rattle.numbers.specs.Panel.{source_too_long, source_not_ascii}
-use Rattle.numbers.specs.Limits.{max_source, max_open}
+use Rattle.numbers.specs.Limits.{max_source}
 use Rattle.numbers.specs.Bytes.{is_ascii, every}
 use Rattle.tree.specs.Tree.{Block}
 use Rattle.grammar.specs.Grammar.{parse, Parsed, tree, refused}
 use Rattle.grammar.specs.Source.{reading}
-use Rattle.grammar.specs.Depth.{parse_nests}
-use Rattle.grammar.specs.Names.{parse_named}
 use Rattle.pcode.specs.Code.{Instr}
 use Rattle.symbols.specs.Symbols.{Row, Rows, rows, refuse_rows}
-use Rattle.translator.specs.Shape.{Shape, block_shape}
 use Rattle.emission.specs.Pieces.{Out, made, refuse}
 use Rattle.translator.specs.Translate.{Done, finished, failed, with_rows, with_code, block_code}
 use Rattle.outcomes.specs.Compile.{accepted, not_accepted, translated, from_tree, compile}
@@ -35,18 +32,6 @@ tree_read src b e = go (leb (length src) max_source) (every is_ascii src) e
     go true true t = t
     go true false t = absurd (let z : ◌≡◌ {A = ℕ} 0 1 = cc in omega arith)
     go false y t = absurd (let z : ◌≡◌ {A = ℕ} 0 1 = cc in omega arith)
-
-pub behind : (src : List ℕ) (c : List Instr) → compile src ≡ accepted c → Behind src c
-unfolding compile from_tree translated
-behind src c e = parsed (reading src) refl e
-  where
-    block : (b : Block) → reading src ≡ tree b → (d : Done) → block_code b ≡ d → translated d ≡ accepted c → Behind src c
-    block b p (finished x rs a) f t = record { block = b; rows = rs; next = a; read = tree_read src b p; made = cc }
-    block b p (failed n) f t = absurd (let z : ◌≡◌ {A = ℕ} 0 1 = cc in omega arith)
-
-    parsed : (x : Parsed) → reading src ≡ x → from_tree x ≡ accepted c → Behind src c
-    parsed (tree b) p t = block b p (block_code b) refl t
-    parsed (refused n) p t = absurd (let z : ◌≡◌ {A = ℕ} 0 1 = cc in omega arith)
 
 -- a tree that was read and translated is accepted code
 pub accepts : (src : List ℕ) (b : Block) (c : List Instr) (rs : List Row) (a : ℕ) → reading src ≡ tree b → block_code b ≡ finished c rs a → compile src ≡ accepted c
@@ -70,9 +55,3 @@ with_rows_lem (refuse_rows n) k e = absurd (let z : ◌≡◌ {A = ℕ} 0 1 = cc
 pub with_code_lem : (x : Out) (k : List Instr → Done) {c : List Instr} {rs : List Row} {a : ℕ} → with_code x k ≡ finished c rs a → (d : List Instr) × (x ≡ made d) × (k d ≡ finished c rs a)
 with_code_lem (made d) k e = (d, refl, e)
 with_code_lem (refuse n) k e = absurd (let z : ◌≡◌ {A = ℕ} 0 1 = cc in omega arith)
-
--- the shape of every accepted program's code
-pub accepted_shape : (src : List ℕ) (c : List Instr) → compile src ≡ accepted c → Shape max_open c
-accepted_shape src c e =
-    let h = behind src c e in
-    block_shape src h.block max_open (parse_named src h.block h.read) (parse_nests src h.block h.read) c h.rows h.next h.made

@@ -23,7 +23,7 @@ use Rattle.parser.specs.declared.Parsed.{Parsed}
 use Rattle.parser.specs.declared.Parsed.TheVariants.{Tree, Refused}
 use Rattle.grammar.specs.Grammar.{tree, refused, parsed, parse, program, fuel}
 use Rattle.grammar.specs.Source.{reading}
-use Rattle.grammar.specs.Refusals.{program_refuses}
+use Rattle.grammar.proofs.Refusals.{program_refuses}
 use Rattle.parser.specs.Parts.{only}
 use Rattle.parser.specs.Meets.{Room, Safe, Means, Tries}
 use Rattle.parser.specs.Entry.{Numbered, concluded_of, answer_of, numbers_of, end_of, Reads, Parses}

@@ -1,3 +1,4 @@
+pub mod Shape
 pub mod Rowing
 pub mod Blocks
 pub mod Ending

@@ -1,0 +1,4 @@
+pub mod Gets
+pub mod Depth
+pub mod Names
+pub mod Refusals
