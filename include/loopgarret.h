@@ -11,8 +11,8 @@
  * Every answer has a number: LOOPGARRET_DONE, or the one reason of the refusal (the table below). LOOPGARRET_ROOM_TOO_SMALL comes
  * before every other, and after it nothing lent has changed.
  *
- * The library is target/staticlib/libengine.a, for x86-64, made from the crate engine_c; of the C library it needs memcpy and
- * memset. examples/run makes it, and builds examples in C and in Rust with it.
+ * The library is target/staticlib/libengine.a, for x86-64, made from the crate engine_c; of the C library it needs at most memcpy
+ * and memset. examples/run makes it, and builds examples in C and in Rust with it.
  *
  * Stack and time are no part of the proof. Calls nest at most once for each of 64 open constructs, and never by the length of a
  * sheet or the steps of a run. On x86-64 a thread with 118,784 bytes of stack was enough for compile and for walk, and one with

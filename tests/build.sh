@@ -1,13 +1,52 @@
-# Builds what the test programs need, with rustc alone, into target/tests. Read by the run scripts (`. tests/build.sh`),
-# from the root of the repository.
+# Builds what the scripts beside the crates need: what rt proves and makes of a crate, copied to target/bin and target/staticlib,
+# and the test programs, made by rustc alone in target/tests. Read by those scripts (`. tests/build.sh`), from the root of the
+# repository.
 out=target/tests
 flags="--edition 2021 -O -C overflow-checks=on"
 
-# newer TARGET SOURCE..: is the target missing, or older than a file among the sources?
+# newer TARGET SOURCE..: is the target missing, or older than a file among the sources? What rt keeps of a crate, its out/, is none.
 newer() {
     local target=$1
     shift
-    [ ! -e "$target" ] || [ -n "$(find "$@" -newer "$target" -type f -print -quit)" ]
+    [ ! -e "$target" ] || [ -n "$(find "$@" -name out -prune -o -newer "$target" -type f -print -quit)" ]
+}
+
+# take CRATE MADE TARGET WORD: where sources are newer than TARGET, copies crates/CRATE/out/MADE to it; `rt WORD` in the crate's folder
+# proves the crate and makes that, unless rt left it there since the sources changed. What rt says stays in target/log.
+take() {
+    local crate=$1 made=crates/$1/out/$2 target=$3 word=$4 log=target/log/$1.built
+    newer "$target" crates.txt crates || return 0
+    mkdir -p target/log "$(dirname "$target")" || return 1
+    if newer "$made" crates.txt crates; then
+        echo "proving and building $crate, which takes some ten minutes the first time" >&2
+        if ! (cd "crates/$crate" && rt "$word") </dev/null >"$log" 2>&1; then
+            tail -n 20 "$log" >&2
+            echo "$crate could not be built; $log has the reasons" >&2
+            return 1
+        fi
+    fi
+    cp "$made" "$target"
+}
+
+# find_replay: sets `replay` to the program that answers cases; LOOPGARRET_REPLAY may name another
+find_replay() {
+    replay=${LOOPGARRET_REPLAY:-}
+    [ -z "$replay" ] || return 0
+    replay=target/bin/replay
+    take replay replay "$replay" run
+}
+
+# build_library CRATE NAME: target/staticlib/libNAME.a, the static library that rt makes of the crate
+build_library() {
+    take "$1" "lib$1.a" "target/staticlib/lib$2.a" lib
+}
+
+# build_engine: the engine as a library; sets `engine` to it. LOOPGARRET_ENGINE may name another.
+build_engine() {
+    engine=${LOOPGARRET_ENGINE:-}
+    [ -z "$engine" ] || return 0
+    engine=$PWD/target/staticlib/libengine.a
+    build_library engine_c engine
 }
 
 build_common() {
@@ -38,42 +77,6 @@ build_oracle() {
     if newer target/oracle/oracle "$source"; then
         mkdir -p target
         "$source/build" "$PWD/target/oracle"
-    fi
-}
-
-# find_replay: sets `replay` to the program that answers cases; LOOPGARRET_REPLAY may name another. It is compiled for x86-64:
-# elsewhere the kit's emulator starts it, as `rt` does.
-find_replay() {
-    replay=${LOOPGARRET_REPLAY:-target/bin/replay}
-    if [ -n "${LOOPGARRET_REPLAY:-}" ] || [ "$(uname -m)" = x86_64 ]; then return 0; fi
-    local kit=${RATTLE_HOME:-$(dirname "$(dirname "$(readlink -f "$(command -v rt)")")")}
-    local tools=$kit/on/$(uname -m)/toolchain
-    replay=$out/replay
-    mkdir -p "$out"
-    printf '#!/bin/sh\nexec "%s" "%s" --library-path "%s" "%s"\n' \
-        "$tools/bin/qemu-x86_64" "$tools/lib/ld-linux-x86-64.so.2" "$tools/lib" "$PWD/target/bin/replay" >"$replay"
-    chmod +x "$replay"
-}
-
-# The command that makes a library for this machine where `rt staticlib` does not, which compiles for x86-64 alone: it is
-# called with the crate and the file to make. LOOPGARRET_NATIVE names it, shared/tools beside the repository has one.
-maker=${LOOPGARRET_NATIVE:-../shared/tools/native-staticlib}
-
-# has_engine: can the engine's library be made for this machine?
-has_engine() {
-    [ -n "${LOOPGARRET_ENGINE:-}" ] || [ "$(uname -m)" = x86_64 ] || [ -x "$maker" ]
-}
-
-# build_engine: the engine as a library for this machine; sets `engine` to it. LOOPGARRET_ENGINE may name another.
-build_engine() {
-    engine=${LOOPGARRET_ENGINE:-}
-    [ -z "$engine" ] || return 0
-    if [ "$(uname -m)" = x86_64 ]; then
-        engine=$PWD/target/staticlib/libengine.a
-        if newer "$engine" crates; then rt staticlib engine; fi
-    else
-        engine=$PWD/$out/libengine.a
-        if newer "$engine" crates; then "$maker" engine "$engine"; fi
     fi
 }
 
