@@ -8,3 +8,4 @@ pub mod Stack
 pub mod Rows
 pub mod Lent
 pub mod Answers
+pub mod Refusals
