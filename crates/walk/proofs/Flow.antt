@@ -29,12 +29,12 @@ use Rattle.walk.proofs.Testing.{tested_then, Led, leads, tests_stop, tests_passe
 
 -- the step after a part
 module _ (rs : List Row) (s tr : List ℕ) (i : ℕ) {e : Env} {input : List ℕ} {vars vars' : List ℤ} {out out' : List ℕ} {p : Progress} {r : Answer (Unit {0}) Refusal} {q : Progress}
-    (x : (t : Stmt) → StmtAt s tr i t → (lv : List ℤ) (lo : List ℕ) (w : State) → Holds e input lv lo vars out p w → Ends e input lv lo vars' out' p (walk_stmt rs (length lo) t p.clock.left w) r q) where
-  pub part_halt : {k : Refusal} → r ≡ Err k → (t : Stmt) → StmtAt s tr i t → (lv : List ℤ) (lo : List ℕ) (w : State) → Holds e input lv lo vars out p w → Ends e input lv lo vars' out' p (part_walk rs (length lo) t p.clock.left w) (Err k) q
+    (x : (t : Stmt) → StmtAt s tr i t → (lv : List ℤ) (lo : List ℕ) (w : State) → Holds e input lv lo vars out p w → Ends e input lv lo vars' out' p (walk_stmt rs (length lo) t p.clock.left w) q r) where
+  pub part_halt : {k : Refusal} → r ≡ Err k → (t : Stmt) → StmtAt s tr i t → (lv : List ℤ) (lo : List ℕ) (w : State) → Holds e input lv lo vars out p w → Ends e input lv lo vars' out' p (part_walk rs (length lo) t p.clock.left w) q (Err k)
   part_halt y t a lv lo w h = ends_halt y (x t a lv lo w h) (λ u. tick)
 
-  pub part_tick : {u : Unit {0}} {v : Answer (Unit {0}) Refusal} {g : Progress} → r ≡ Ok u → Steps q (at_top q.clock.top) v g
-      → (t : Stmt) → StmtAt s tr i t → (lv : List ℤ) (lo : List ℕ) (w : State) → Holds e input lv lo vars out p w → Ends e input lv lo vars' out' p (part_walk rs (length lo) t p.clock.left w) v g
+  pub part_tick : {u : Unit {0}} {v : Answer (Unit {0}) Refusal} {g : Progress} → r ≡ Ok u → Steps q (at_top q.clock.top) g v
+      → (t : Stmt) → StmtAt s tr i t → (lv : List ℤ) (lo : List ℕ) (w : State) → Holds e input lv lo vars out p w → Ends e input lv lo vars' out' p (part_walk rs (length lo) t p.clock.left w) g v
   part_tick y f t a lv lo w h = ends_then y (x t a lv lo w h) (λ c. tick) (λ v held. rw (at_top_lem v q.clock.top held.top) at (f e input lv lo vars' out' v held))
 
 -- an `if`: what is walked for its `else`, if it has one
@@ -63,9 +63,9 @@ module _ {s tr : List ℕ} {i : ℕ} (k : get_or tr i 0 ≡ node_no if_kind) (h 
 
 -- how an `if` ends
 module _ (rs : List Row) (s tr : List ℕ) (i : ℕ) (e : Env) (input : List ℕ) (vars : List ℤ) (out : List ℕ) (p : Progress) {r : Answer Bool Refusal} {q : Progress} (k : get_or tr i 0 ≡ node_no if_kind)
-    (x : (t : Cond) → CondAt s tr (i + 4) t → (input : List ℕ) (lv : List ℤ) (lo out : List ℕ) (w : State) → Holds e input lv lo vars out p w → Tests e input lv lo vars out p (test_walk rs t p.clock.left w) r q) where
+    (x : (t : Cond) → CondAt s tr (i + 4) t → (input : List ℕ) (lv : List ℤ) (lo out : List ℕ) (w : State) → Holds e input lv lo vars out p w → Tests e input lv lo vars out p (test_walk rs t p.clock.left w) q r) where
   abbrev Meet : List ℤ → List ℕ → Answer (Unit {0}) Refusal → Progress → Type 0
-  Meet vars' out' u g = (t : Stmt) → StmtAt s tr i t → (lv : List ℤ) (lo : List ℕ) (w : State) → Holds e input lv lo vars out p w → Ends e input lv lo vars' out' p (walk_stmt rs (length lo) t p.clock.left w) u g
+  Meet vars' out' u g = (t : Stmt) → StmtAt s tr i t → (lv : List ℤ) (lo : List ℕ) (w : State) → Holds e input lv lo vars out p w → Ends e input lv lo vars' out' p (walk_stmt rs (length lo) t p.clock.left w) g u
 
   pub if_stop : {m : Refusal} → r ≡ Err m → Meet vars out (Err m) q
   if_stop y t a lv lo w h =
@@ -73,7 +73,7 @@ module _ (rs : List Row) (s tr : List ℕ) (i : ℕ) (e : Env) (input : List ℕ
       ends_as (sym (walk_is rs t v (length lo) p.clock.left w)) (tests_stop (x v.cond (guard_cond v.guard) input lv lo out w h) y (λ z. whether (eq_z z (pos 0)) (else_walk rs (length lo) v.other) (part_walk rs (length lo) v.stmt)))
 
   pub if_passed : {j : ℕ} {vars' : List ℤ} {out' : List ℕ} {u : Answer (Unit {0}) Refusal} {g : Progress} → r ≡ Ok true → After tr (i + 4) j
-      → ((t : Stmt) → StmtAt s tr j t → (lv : List ℤ) (lo : List ℕ) (w : State) → Holds e input lv lo vars out q w → Ends e input lv lo vars' out' q (part_walk rs (length lo) t q.clock.left w) u g) → Meet vars' out' u g
+      → ((t : Stmt) → StmtAt s tr j t → (lv : List ℤ) (lo : List ℕ) (w : State) → Holds e input lv lo vars out q w → Ends e input lv lo vars' out' q (part_walk rs (length lo) t q.clock.left w) g u) → Meet vars' out' u g
   if_passed y f g t a lv lo w h =
       let v = if_at k t a in
       ends_as (sym (walk_is rs t v (length lo) p.clock.left w)) (on_passed (x v.cond (guard_cond v.guard) input lv lo out w h) (else_walk rs (length lo) v.other) (part_walk rs (length lo) v.stmt) y (λ u held. g v.stmt (guard_stmt v.guard f) lv lo u held))
@@ -82,10 +82,10 @@ module _ (rs : List Row) (s tr : List ℕ) (i : ℕ) (e : Env) (input : List ℕ
   if_short y l t a lv lo w h =
       let v = if_at k t a in
       ends_as (sym (walk_is rs t v (length lo) p.clock.left w)) (on_failed (x v.cond (guard_cond v.guard) input lv lo out w h) (else_walk rs (length lo) v.other) (part_walk rs (length lo) v.stmt) y
-      (λ u held. ends_as (ap (λ (x : Option Stmt). else_walk rs (length lo) x q.clock.left u) (sym (v.short l))) (done {q = q} u refl held (omega arith))))
+      (λ u held. ends_as (ap (λ (x : Option Stmt). else_walk rs (length lo) x q.clock.left u) (sym (v.short l))) (done u refl held (omega arith))))
 
   pub if_failed : {j j₂ : ℕ} {vars' : List ℤ} {out' : List ℕ} {u : Answer (Unit {0}) Refusal} {g : Progress} → r ≡ Ok false → 3 ≤ get_or tr (i + 2) 0 → After tr (i + 4) j → After tr j j₂
-      → ((t : Stmt) → StmtAt s tr j₂ t → (lv : List ℤ) (lo : List ℕ) (w : State) → Holds e input lv lo vars out q w → Ends e input lv lo vars' out' q (walk_stmt rs (length lo) t q.clock.left w) u g) → Meet vars' out' u g
+      → ((t : Stmt) → StmtAt s tr j₂ t → (lv : List ℤ) (lo : List ℕ) (w : State) → Holds e input lv lo vars out q w → Ends e input lv lo vars' out' q (walk_stmt rs (length lo) t q.clock.left w) g u) → Meet vars' out' u g
   if_failed {j} {j₂} y l f f₂ g t a lv lo w h =
       let v = if_at k t a in
       let o = v.long l j j₂ f f₂ in
@@ -128,7 +128,7 @@ unfolding loop
 lap_is n c s b w = tested_then (c b w) (λ z. whether (eq_z z (pos 0)) (pure tt) (s >> tick >> loop n c s))
 
 lap_next : {rs : List Row} {c : Cond} {t : Stmt} {e : Env} {input : List ℕ} {lv : List ℤ} {lo : List ℕ} {p : Progress} {w : State} {vars vars' : List ℤ} {out out' : List ℕ} {q d g : Progress} {u : Unit {0}} (o : Lap rs c t e input lv lo p w vars out q)
-    (b : Led e input lv lo vars out q (test_walk rs c q.clock.left o.state) d false) → Ends e input lv lo vars' out' d (part_walk rs (length lo) t d.clock.left b.state) (Ok u) g → Lap rs c t e input lv lo p w vars' out' g
+    (b : Led e input lv lo vars out q (test_walk rs c q.clock.left o.state) d false) → Ends e input lv lo vars' out' d (part_walk rs (length lo) t d.clock.left b.state) g (Ok u) → Lap rs c t e input lv lo p w vars' out' g
 lap_next {rs} {c} {t} {e} {input} {lv} {lo} {p} {w} {vars} {vars'} {out} {out'} {q} {d} {g} {u} o b (done v x held less) = of o.fuel o.enough o.is
   where
     of : (n : ℕ) → q.clock.left < n → walk_stmt rs (length lo) (while c t) p.clock.left w ≡ loop n (walk_cond rs c) (walk_stmt rs (length lo) t) q.clock.left o.state → Lap rs c t e input lv lo p w vars' out' g
@@ -150,13 +150,13 @@ module _ (rs : List Row) (s tr : List ℕ) (i : ℕ) (e : Env) (input : List ℕ
   laps_start c t a lv lo w h = record { state = w; holds = h; fuel = suc p.clock.left; enough = omega arith; is = refl; less = omega arith }
 
   abbrev Whole : List ℤ → List ℕ → Answer (Unit {0}) Refusal → Progress → Type 0
-  Whole vars' out' r g = (t : Stmt) → StmtAt s tr i t → (lv : List ℤ) (lo : List ℕ) (w : State) → Holds e input lv lo vars₀ out₀ p w → Ends e input lv lo vars' out' p (walk_stmt rs (length lo) t p.clock.left w) r g
+  Whole vars' out' r g = (t : Stmt) → StmtAt s tr i t → (lv : List ℤ) (lo : List ℕ) (w : State) → Holds e input lv lo vars₀ out₀ p w → Ends e input lv lo vars' out' p (walk_stmt rs (length lo) t p.clock.left w) g r
 
   by_while : {vars' : List ℤ} {out' : List ℕ} {r : Answer (Unit {0}) Refusal} {g : Progress} → get_or tr i 0 ≡ node_no while_kind
-      → ((c : Cond) (t : Stmt) → StmtAt s tr i (while c t) → (lv : List ℤ) (lo : List ℕ) (w : State) → Holds e input lv lo vars₀ out₀ p w → Ends e input lv lo vars' out' p (walk_stmt rs (length lo) (while c t) p.clock.left w) r g) → Whole vars' out' r g
+      → ((c : Cond) (t : Stmt) → StmtAt s tr i (while c t) → (lv : List ℤ) (lo : List ℕ) (w : State) → Holds e input lv lo vars₀ out₀ p w → Ends e input lv lo vars' out' p (walk_stmt rs (length lo) (while c t) p.clock.left w) g r) → Whole vars' out' r g
   by_while {vars'} {out'} {r} {g} k f t a lv lo w h = of (stmt_is (node_head while_kind) tr i t k a.stands) a
     where
-      of : {u : Stmt} → StmtIs (node_head while_kind) u → StmtAt s tr i u → Ends e input lv lo vars' out' p (walk_stmt rs (length lo) u p.clock.left w) r g
+      of : {u : Stmt} → StmtIs (node_head while_kind) u → StmtAt s tr i u → Ends e input lv lo vars' out' p (walk_stmt rs (length lo) u p.clock.left w) g r
       of (is_while c u) b = f c u b lv lo w h
 
   module _ (vars : List ℤ) (out : List ℕ) (q : Progress) (l : Laps rs s tr i e input vars₀ out₀ p vars out q) where
@@ -167,14 +167,14 @@ module _ (rs : List Row) (s tr : List ℕ) (i : ℕ) (e : Env) (input : List ℕ
         let g = l t.0 t.1 t.2 h.lv h.lo h.state h.holds in
         record { lv = h.lv; lo = h.lo; state = g.state; holds = g.holds }
 
-    module _ {r : Answer Bool Refusal} {d : Progress} (x : (t : Cond) → CondAt s tr (i + 4) t → (input : List ℕ) (lv : List ℤ) (lo out : List ℕ) (w : State) → Holds e input lv lo vars out q w → Tests e input lv lo vars out q (test_walk rs t q.clock.left w) r d) where
+    module _ {r : Answer Bool Refusal} {d : Progress} (x : (t : Cond) → CondAt s tr (i + 4) t → (input : List ℕ) (lv : List ℤ) (lo out : List ℕ) (w : State) → Holds e input lv lo vars out q w → Tests e input lv lo vars out q (test_walk rs t q.clock.left w) d r) where
       -- one lap more, or the end
       on : {c : Cond} {t : Stmt} (lv : List ℤ) (lo : List ℕ) {vars' : List ℤ} {out' : List ℕ} {u : Answer (Unit {0}) Refusal} {b : Progress} (w : State) (g : Lap rs c t e input lv lo p w vars out q)
-          → ((n : ℕ) → Ends e input lv lo vars' out' q (then (λ z. whether (eq_z z (pos 0)) (pure tt) (lap_walk rs (length lo) c t n)) (test_walk rs c q.clock.left g.state)) u b)
-          → Ends e input lv lo vars' out' p (walk_stmt rs (length lo) (while c t) p.clock.left w) u b
+          → ((n : ℕ) → Ends e input lv lo vars' out' q (then (λ z. whether (eq_z z (pos 0)) (pure tt) (lap_walk rs (length lo) c t n)) (test_walk rs c q.clock.left g.state)) b u)
+          → Ends e input lv lo vars' out' p (walk_stmt rs (length lo) (while c t) p.clock.left w) b u
       on {c} {t} lv lo {vars'} {out'} {u} {b} w g f = of g.fuel g.enough g.is
         where
-          of : (n : ℕ) → q.clock.left < n → walk_stmt rs (length lo) (while c t) p.clock.left w ≡ loop n (walk_cond rs c) (walk_stmt rs (length lo) t) q.clock.left g.state → Ends e input lv lo vars' out' p (walk_stmt rs (length lo) (while c t) p.clock.left w) u b
+          of : (n : ℕ) → q.clock.left < n → walk_stmt rs (length lo) (while c t) p.clock.left w ≡ loop n (walk_cond rs c) (walk_stmt rs (length lo) t) q.clock.left g.state → Ends e input lv lo vars' out' p (walk_stmt rs (length lo) (while c t) p.clock.left w) b u
           of zero h y = absurd (omega (arith, h))
           of (suc n) h y = ends_as (sym (y ∙ lap_is n (walk_cond rs c) (walk_stmt rs (length lo) t) q.clock.left g.state)) (ends_from p g.less (f n))
 
@@ -186,10 +186,10 @@ module _ (rs : List Row) (s tr : List ℕ) (i : ℕ) (e : Env) (input : List ℕ
       pub laps_done : {u : Unit {0}} → get_or tr i 0 ≡ node_no while_kind → r ≡ Ok false → Whole vars out (Ok u) d
       laps_done k y = by_while k (λ c t a lv lo w h.
           let g = l c t a lv lo w h in
-          on lv lo w g (λ n. on_failed (x c (guard_cond (while_guard a)) input lv lo out g.state g.holds) (pure tt) (lap_walk rs (length lo) c t n) y (λ v held. done {q = d} v refl held (omega arith))))
+          on lv lo w g (λ n. on_failed (x c (guard_cond (while_guard a)) input lv lo out g.state g.holds) (pure tt) (lap_walk rs (length lo) c t n) y (λ v held. done v refl held (omega arith))))
 
       module _ (y : r ≡ Ok true) {j : ℕ} (f : After tr (i + 4) j) (vars' : List ℤ) (out' : List ℕ) {u : Answer (Unit {0}) Refusal} {g : Progress}
-          (part : (t : Stmt) → StmtAt s tr j t → (lv : List ℤ) (lo : List ℕ) (w : State) → Holds e input lv lo vars out d w → Ends e input lv lo vars' out' d (part_walk rs (length lo) t d.clock.left w) u g) where
+          (part : (t : Stmt) → StmtAt s tr j t → (lv : List ℤ) (lo : List ℕ) (w : State) → Holds e input lv lo vars out d w → Ends e input lv lo vars' out' d (part_walk rs (length lo) t d.clock.left w) g u) where
         pub laps_halt : {m : Refusal} → get_or tr i 0 ≡ node_no while_kind → u ≡ Err m → Whole vars' out' (Err m) g
         laps_halt k z = by_while k (λ c t a lv lo w h.
             let g = l c t a lv lo w h in

@@ -58,17 +58,17 @@ read_spent room w = of (ltb w.top max_cells)
 
 -- a refusal where p stands
 module _ (input before : List ℕ) (p : Progress) where
-  stays : (k : Refusal) → ((e : Env) (lv : List ℤ) (lo : List ℕ) (vars : List ℤ) (w : State) → Holds e input lv lo vars before p w → read_line (length lo) p.clock.left w ≡ stop (number_of k) p.clock.left w) → Enters input before before p (Err k) p
+  stays : (k : Refusal) → ((e : Env) (lv : List ℤ) (lo : List ℕ) (vars : List ℤ) (w : State) → Holds e input lv lo vars before p w → read_line (length lo) p.clock.left w ≡ stop (number_of k) p.clock.left w) → Enters input before before p p (Err k)
   stays k f = record {
-    reads = λ e lv lo vars w h. unread {k = k} {q = p} w (f e lv lo vars w h) h (omega arith);
+    reads = λ e lv lo vars w h. unread {k = k} w (f e lv lo vars w h) h (omega arith);
     top = λ z x. let n : ◌≡◌ {A = ℕ} 0 1 = cc in absurd (omega arith);
   }
 
-  pub enter_spent : p.clock.left ≡ 0 → Enters input before before p (Err BudgetSpent) p
+  pub enter_spent : p.clock.left ≡ 0 → Enters input before before p p (Err BudgetSpent)
   enter_spent z = stays BudgetSpent (λ e lv lo vars w h. rw z (read_spent (length lo) w))
 
   module _ (l : p.clock.left ≡ 0 → ⊥) where
-    pub enter_full : max_cells ≤ p.clock.top → Enters input before before p (Err CellOutside) p
+    pub enter_full : max_cells ≤ p.clock.top → Enters input before before p p (Err CellOutside)
     unfolding read_line
     enter_full f = stays CellOutside (λ e lv lo vars w h. rw (le-ltb w.top max_cells (omega (arith, h.top)), read_line) (refuse_on cell_outside w p.clock.left l))
 
@@ -77,7 +77,7 @@ module _ (input before : List ℕ) (p : Progress) where
       unfolding read_line
       line_is e lv lo vars w h = rw (lt-ltb w.top max_cells (omega (arith, h.top)), read_line) (rw h.rest)
 
-      pub enter_bad : {t : Answer (ℤ × ℕ) Refusal} {m : Refusal} → t ≡ Err m → Takes input p.at t → Enters input before before p (Err m) p
+      pub enter_bad : {t : Answer (ℤ × ℕ) Refusal} {m : Refusal} → t ≡ Err m → Takes input p.at t → Enters input before before p p (Err m)
       enter_bad {m} x k =
           let f : (m ≡ BadEntry) × (entry (drop p.at input) ≡ none) = rw x at k in
           rw f.0 (stays BadEntry (λ e lv lo vars w h. line_is e lv lo vars w h ∙ rw f.1 (refuse_on bad_entry w p.clock.left l)))
@@ -89,19 +89,19 @@ module _ (input before : List ℕ) (p : Progress) where
         room_is : (e : Env) (lv : List ℤ) (lo : List ℕ) (vars : List ℤ) (w : State) → Holds e input lv lo vars before p w → fits_in (length lo) w.out prompt ≡ leb (p.written + length prompt) (length before)
         room_is e lv lo vars w h = rw (h.written, h.out_is, onto_length lo w.out h.fits)
 
-        pub enter_unfit : {u : Answer ℕ Refusal} {m : Refusal} (after : List ℕ) → u ≡ Err m → Puts prompt p.written before after u → Enters input before after p (Err m) p
+        pub enter_unfit : {u : Answer ℕ Refusal} {m : Refusal} (after : List ℕ) → u ≡ Err m → Puts prompt p.written before after u → Enters input before after p p (Err m)
         enter_unfit {m} after y v =
             let g : (m ≡ OutputFull) × Kept prompt p.written before after = rw y at v in
             let q = g.1 in
             rw (g.0, q.same) (stays OutputFull (λ e lv lo vars w h. line_is e lv lo vars w h ∙ rw took.value (rw (room_is e lv lo vars w h ∙ q.full) (refuse_on output_full w p.clock.left l))))
 
-        pub enter_on : {u : Answer ℕ Refusal} (after : List ℕ) (m : ℕ) (y : ℤ) → u ≡ Ok m → Puts prompt p.written before after u → y ≡ z → Enters input before after p (Ok y) (entered p n m)
+        pub enter_on : {u : Answer ℕ Refusal} (after : List ℕ) (m : ℕ) (y : ℤ) → u ≡ Ok m → Puts prompt p.written before after u → y ≡ z → Enters input before after p (entered p n m) (Ok y)
         enter_on after m y s v d =
             let q : Wrote prompt p.written before after m = rw s at v in
             rw d (record {
               reads = λ e lv lo vars w h.
                   let fit : length w.out + length prompt ≤ length lo = leb-true (length w.out + length prompt) (length lo) (room_is e lv lo vars w h ∙ q.fits) in
-                  read {z = z} {q = entered p n m} (took_line w)
+                  read {z = z} (took_line w)
                   (line_is e lv lo vars w h ∙ rw took.value (rw (room_is e lv lo vars w h ∙ q.fits) (step_on z (took_line w) w p.clock.left l)))
                   (record {
                     top = ap suc h.top ∙ sym (add-one p.clock.top);

@@ -60,10 +60,10 @@ module _ (F : Family) (tr : List ℕ) (e : Env) (input : List ℕ) (i N : ℕ) (
 
     module _ (lv : List ℤ) (lo : List ℕ) (w : State) (h : Holds e input lv lo vars₀ out₀ p w) (vars' : List ℤ) (out' : List ℕ) (r : Answer (Unit {0}) Refusal) (d : Progress) where
       abbrev Whole : Type 0
-      Whole = Ends e input lv lo vars' out' p (F.gen (length lo) all p.clock.left w) r d
+      Whole = Ends e input lv lo vars' out' p (F.gen (length lo) all p.clock.left w) d r
 
       -- no member is left
-      pub along_done : N ≤ k → (f : Walk (Unit {0})) → ((b : ℕ) (v : State) → F.gen (length lo) [] b v ≡ f b v) → ((v : State) → Holds e input lv lo vars out q v → Ends e input lv lo vars' out' q (f q.clock.left v) r d) → Whole
+      pub along_done : N ≤ k → (f : Walk (Unit {0})) → ((b : ℕ) (v : State) → F.gen (length lo) [] b v ≡ f b v) → ((v : State) → Holds e input lv lo vars out q v → Ends e input lv lo vars' out' q (f q.clock.left v) d r) → Whole
       unfolding list_nodes count
       along_done n f g x = of l.rest l.counted (l.so lv lo w h)
         where
@@ -81,12 +81,12 @@ module _ (F : Family) (tr : List ℕ) (e : Env) (input : List ℕ) (i N : ℕ) (
           of [] c st nm = absurd (omega (arith, c))
           of (a ∷ u) c st nm = let two = two_at tr j (F.node a) (list_nodes F.node u) st in (a, (two.one, (nm.0, omega (arith, two.fits, two.least))))
 
-      module _ (vars' : List ℤ) (out' : List ℕ) {r : Answer (Unit {0}) Refusal} {d : Progress} (x : (a : F.A) → Stands tr j (enc (F.node a)) → F.In a → (lv : List ℤ) (lo : List ℕ) (w : State) → Holds e input lv lo vars out q w → Ends e input lv lo vars' out' q (F.run (length lo) a q.clock.left w) r d) where
-        pub along_halt : {m : Refusal} → r ≡ Err m → (lv : List ℤ) (lo : List ℕ) (w : State) → Holds e input lv lo vars₀ out₀ p w → Ends e input lv lo vars' out' p (F.gen (length lo) all p.clock.left w) (Err m) d
+      module _ (vars' : List ℤ) (out' : List ℕ) {r : Answer (Unit {0}) Refusal} {d : Progress} (x : (a : F.A) → Stands tr j (enc (F.node a)) → F.In a → (lv : List ℤ) (lo : List ℕ) (w : State) → Holds e input lv lo vars out q w → Ends e input lv lo vars' out' q (F.run (length lo) a q.clock.left w) d r) where
+        pub along_halt : {m : Refusal} → r ≡ Err m → (lv : List ℤ) (lo : List ℕ) (w : State) → Holds e input lv lo vars₀ out₀ p w → Ends e input lv lo vars' out' p (F.gen (length lo) all p.clock.left w) d (Err m)
         unfolding list_nodes count Each
         along_halt {m} y lv lo w h = of l.rest l.counted l.stands l.named (l.so lv lo w h)
           where
-            of : (u : List F.A) → k + count (list_nodes F.node u) ≡ N → Stands tr j (encs (list_nodes F.node u)) → Each F.In u → So F e input lv lo all u p w vars out q → Ends e input lv lo vars' out' p (F.gen (length lo) all p.clock.left w) (Err m) d
+            of : (u : List F.A) → k + count (list_nodes F.node u) ≡ N → Stands tr j (encs (list_nodes F.node u)) → Each F.In u → So F e input lv lo all u p w vars out q → Ends e input lv lo vars' out' p (F.gen (length lo) all p.clock.left w) d (Err m)
             of [] c st nm s = absurd (omega (arith, c))
             of (a ∷ u) c st nm s =
                 ends_as (sym (s.is ∙ F.more (length lo) a u q.clock.left s.state))
@@ -96,7 +96,7 @@ module _ (F : Family) (tr : List ℕ) (e : Env) (input : List ℕ) (i N : ℕ) (
         unfolding list_nodes count Each
         along_more {u = ok_u} {j'} y f = of l.rest l.counted l.stands l.named l.so
           where
-            next_so : (a : F.A) (u : List F.A) (lv : List ℤ) (lo : List ℕ) (w : State) (s : So F e input lv lo all (a ∷ u) p w vars out q) → Ends e input lv lo vars' out' q (F.run (length lo) a q.clock.left s.state) (Ok ok_u) d → So F e input lv lo all u p w vars' out' d
+            next_so : (a : F.A) (u : List F.A) (lv : List ℤ) (lo : List ℕ) (w : State) (s : So F e input lv lo all (a ∷ u) p w vars out q) → Ends e input lv lo vars' out' q (F.run (length lo) a q.clock.left s.state) d (Ok ok_u) → So F e input lv lo all u p w vars' out' d
             next_so a u lv lo w s (done v i m n) = record {
               state = v;
               holds = m;

@@ -38,14 +38,14 @@ module _ (p : Progress) (u : Answer ℕ Refusal) (bs before after : List ℕ) (v
   fits_as : (e : Env) (input : List ℕ) (lv : List ℤ) (lo : List ℕ) (vars : List ℤ) (w : State) → Holds e input lv lo vars before p w → fits_in (length lo) w.out bs ≡ leb (p.written + length bs) (length before)
   fits_as e input lv lo vars w h = rw (h.written, h.out_is, onto_length lo w.out h.fits)
 
-  pub wrote_full : {k : Refusal} → (p.clock.left ≡ 0 → ⊥) → u ≡ Err k → Writes bs before after p (Err k) p
+  pub wrote_full : {k : Refusal} → (p.clock.left ≡ 0 → ⊥) → u ≡ Err k → Writes bs before after p p (Err k)
   unfolding put
   wrote_full {k} l x e input lv lo vars w h =
       let f : (k ≡ OutputFull) × Kept bs p.written before after = rw x at v in
       let q = f.1 in
-      rw (f.0, q.same) (refused {k = OutputFull} {q = p} w (rw (fits_as e input lv lo vars w h ∙ q.full, put) (refuse_on output_full w p.clock.left l)) h (omega arith))
+      rw (f.0, q.same) (refused {k = OutputFull} w (rw (fits_as e input lv lo vars w h ∙ q.full, put) (refuse_on output_full w p.clock.left l)) h (omega arith))
 
-  pub wrote_on : (n : ℕ) {r : Answer (Unit {0}) Refusal} {d : Progress} → (p.clock.left ≡ 0 → ⊥) → u ≡ Ok n → Steps (up_to p n) (at_top p.clock.top) r d → Writes bs before after p r d
+  pub wrote_on : (n : ℕ) {r : Answer (Unit {0}) Refusal} {d : Progress} → (p.clock.left ≡ 0 → ⊥) → u ≡ Ok n → Steps (up_to p n) (at_top p.clock.top) d r → Writes bs before after p d r
   unfolding put
   wrote_on n l x f e input lv lo vars w h =
       let q : Wrote bs p.written before after n = rw x at v in
@@ -65,17 +65,17 @@ module _ (p : Progress) (u : Answer ℕ Refusal) (bs before after : List ℕ) (v
       ends_as (step_on tt (at_top p.clock.top (more w bs)) (more w bs) p.clock.left l ∙ rw to (sym (rw (fits_as e input lv lo vars w h ∙ q.fits, put) (step_on tt (wrote bs w.top w) w p.clock.left l))))
       (ends_from p (omega arith) (f e input lv lo vars after (more w bs) held))
 
-pub write_spent : (bs before : List ℕ) (p : Progress) → p.clock.left ≡ 0 → Writes bs before before p (Err BudgetSpent) p
+pub write_spent : (bs before : List ℕ) (p : Progress) → p.clock.left ≡ 0 → Writes bs before before p p (Err BudgetSpent)
 unfolding put
-write_spent bs before p z e input lv lo vars w h = refused {k = BudgetSpent} {q = p} w (rw z (spent_unless (fits_in (length lo) w.out bs) output_full tt (wrote bs w.top w) w)) h (omega arith)
+write_spent bs before p z e input lv lo vars w h = refused {k = BudgetSpent} w (rw z (spent_unless (fits_in (length lo) w.out bs) output_full tt (wrote bs w.top w) w)) h (omega arith)
 
-module _ (rs : List Row) (s tr : List ℕ) (i : ℕ) (e : Env) (vars : List ℤ) (before : List ℕ) (p : Progress) {r : Answer ℤ Refusal} {d : Clock} (x : (t : Exp) → ExpAt s tr i t → (w : State) → Shows vars e p.clock w → Gives (p.clock.top + 1) p.clock w (walk_exp rs t p.clock.left w) r d) where
+module _ (rs : List Row) (s tr : List ℕ) (i : ℕ) (e : Env) (vars : List ℤ) (before : List ℕ) (p : Progress) {r : Answer ℤ Refusal} {d : Clock} (x : (t : Exp) → ExpAt s tr i t → (w : State) → Shows vars e p.clock w → Gives (p.clock.top + 1) p.clock w (walk_exp rs t p.clock.left w) d r) where
   abbrev Meet : List ℕ → Answer (Unit {0}) Refusal → Progress → Type 0
-  Meet after u q = (t : Exp) → ExpAt s tr i t → (input : List ℕ) (lv : List ℤ) (lo : List ℕ) (w : State) → Holds e input lv lo vars before p w → Ends e input lv lo vars after p (write_walk rs (length lo) t p.clock.left w) u q
+  Meet after u q = (t : Exp) → ExpAt s tr i t → (input : List ℕ) (lv : List ℤ) (lo : List ℕ) (w : State) → Holds e input lv lo vars before p w → Ends e input lv lo vars after p (write_walk rs (length lo) t p.clock.left w) q u
 
   pub write_stop : {m : Refusal} → r ≡ Err m → Meet before (Err m) (with_clock p d)
   write_stop {m} g t a input lv lo w h = exp_stop h (x t a w (shown h)) g (λ z. put_number (length lo) z)
 
-  pub write_on : {z y : ℤ} {after : List ℕ} {u : Answer (Unit {0}) Refusal} {q : Progress} → r ≡ Ok z → y ≡ z → Writes (written y) before after (with_clock p d) u q → Meet after u q
+  pub write_on : {z y : ℤ} {after : List ℕ} {u : Answer (Unit {0}) Refusal} {q : Progress} → r ≡ Ok z → y ≡ z → Writes (written y) before after (with_clock p d) q u → Meet after u q
   write_on {z} {y} {after} {u} {q} g c f t a input lv lo w h =
       exp_then h (x t a w (shown h)) g (λ z. put_number (length lo) z) (λ held. rw (← c) (f e input lv lo vars (at_top d.top w) held))

@@ -49,29 +49,29 @@ pub halted : (c : Clock) (w : State) (k : Refusal) (o : Result ℤ) → w.top �
 halted c w k o t e = record { is = e ∙ ap (stop (number_of k) c.left) (sym (at_top_lem w c.top t)); less = omega arith }
 
 module _ (z : ℤ) (c : Clock) (w : State) (t : w.top ≡ c.top) where
-  pub push_spent : (n : ℕ) → c.left ≡ 0 → Gives n c w (push z c.left w) (Err BudgetSpent) c
+  pub push_spent : (n : ℕ) → c.left ≡ 0 → Gives n c w (push z c.left w) c (Err BudgetSpent)
   unfolding push
   push_spent n e = halts (halted c w BudgetSpent _ t (rw e (spent_unless (ltb w.top max_cells) cell_outside z (at_top (suc w.top) w) w)))
 
-  pub push_full : (n : ℕ) → (c.left ≡ 0 → ⊥) → max_cells ≤ c.top → Gives n c w (push z c.left w) (Err CellOutside) c
+  pub push_full : (n : ℕ) → (c.left ≡ 0 → ⊥) → max_cells ≤ c.top → Gives n c w (push z c.left w) c (Err CellOutside)
   unfolding push
   push_full n h f = halts (halted c w CellOutside _ t (rw (le-ltb w.top max_cells (omega (arith, t))) (refuse_on cell_outside w c.left h)))
 
-  pub push_on : (y : ℤ) → y ≡ z → (c.left ≡ 0 → ⊥) → c.top < max_cells → Gives (c.top + 1) c w (push z c.left w) (Ok y) (ticked c (c.top + 1))
+  pub push_on : (y : ℤ) → y ≡ z → (c.left ≡ 0 → ⊥) → c.top < max_cells → Gives (c.top + 1) c w (push z c.left w) (ticked c (c.top + 1)) (Ok y)
   unfolding push
-  push_on y e h f = gives {z = y} {d = ticked c (c.top + 1)} (record {
+  push_on y e h f = gives {z = y} (record {
     is = rw (lt-ltb w.top max_cells (omega (arith, t))) (step_on z (at_top (suc w.top) w) w c.left h ∙ rw (t, add-one, e));
     top = refl;
     less = omega arith;
   })
 
 module _ (n : ℕ) (c : Clock) (w : State) (t : w.top ≡ c.top) where
-  pub settle_spent : (v : Val) → c.left ≡ 0 → Gives n c w (result n v c.left w) (Err BudgetSpent) c
+  pub settle_spent : (v : Val) → c.left ≡ 0 → Gives n c w (result n v c.left w) c (Err BudgetSpent)
   settle_spent (val z) e = halts (halted c w BudgetSpent _ t (rw e))
   settle_spent (fault k) e = halts (halted c w BudgetSpent _ t (rw e))
 
-  pub settle_on : (v : Val) (z y : ℤ) → v ≡ val z → y ≡ z → (c.left ≡ 0 → ⊥) → Gives n c w (result n v c.left w) (Ok y) (ticked c n)
-  settle_on v z y e d h = gives {z = y} {d = ticked c n} (record { is = ap (λ (u : Val). result n u c.left w) e ∙ step_on z (at_top n w) w c.left h ∙ rw d; top = refl; less = omega arith })
+  pub settle_on : (v : Val) (z y : ℤ) → v ≡ val z → y ≡ z → (c.left ≡ 0 → ⊥) → Gives n c w (result n v c.left w) (ticked c n) (Ok y)
+  settle_on v z y e d h = gives {z = y} (record { is = ap (λ (u : Val). result n u c.left w) e ∙ step_on z (at_top n w) w c.left h ∙ rw d; top = refl; less = omega arith })
 
-  pub settle_not : (v : Val) (k : Refusal) → v ≡ fault (number_of k) → (c.left ≡ 0 → ⊥) → Gives n c w (result n v c.left w) (Err k) c
+  pub settle_not : (v : Val) (k : Refusal) → v ≡ fault (number_of k) → (c.left ≡ 0 → ⊥) → Gives n c w (result n v c.left w) c (Err k)
   settle_not v k e h = halts (halted c w k _ t (ap (λ (u : Val). result n u c.left w) e ∙ refuse_on (number_of k) w c.left h))

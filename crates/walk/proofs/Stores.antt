@@ -40,17 +40,17 @@ not_made v v' zero w k n u x = x
 not_made v v' (suc b) w k n u x = let f : ◌≡◌ {A = ℕ} 0 1 = cc in absurd (omega linear)
 
 module _ (rs : List Row) (s tr : List ℕ) (i : ℕ) (z : ℤ) (n : Name) (a : NameAt s tr i n) {e : Env} {input : List ℕ} {lv : List ℤ} {lo : List ℕ} {vars : List ℤ} {out : List ℕ} {p : Progress} {w : State} (h : Holds e input lv lo vars out p w)
-    {r : Answer (Unit {0}) Refusal} {q : Progress} (f : Steps p (at_top (p.clock.top - 1)) r q) where
+    {r : Answer (Unit {0}) Refusal} {q : Progress} (f : Steps p (at_top (p.clock.top - 1)) q r) where
   -- 16: nothing is stored
-  pub store_halt : {k : Refusal} → r ≡ Err k → Ends e input lv lo vars out p (store rs n z p.clock.left w) (Err k) q
+  pub store_halt : {k : Refusal} → r ≡ Err k → Ends e input lv lo vars out p (store rs n z p.clock.left w) q (Err k)
   unfolding store
   store_halt {k} x = of (rw x at (f e input lv lo vars out w h))
     where
-      of : Ends e input lv lo vars out p (step tt (at_top (p.clock.top - 1) w) p.clock.left w) (Err k) q → Ends e input lv lo vars out p (step tt (stored (place_in (find rs n.text main_scope)) z w) p.clock.left w) (Err k) q
-      of (refused v i m l) = refused {k = k} {q = q} v (not_made (at_top (p.clock.top - 1) w) (stored (place_in (find rs n.text main_scope)) z w) p.clock.left w (number_of k) q.clock.left v i) m l
+      of : Ends e input lv lo vars out p (step tt (at_top (p.clock.top - 1) w) p.clock.left w) q (Err k) → Ends e input lv lo vars out p (step tt (stored (place_in (find rs n.text main_scope)) z w) p.clock.left w) q (Err k)
+      of (refused v i m l) = refused {k = k} v (not_made (at_top (p.clock.top - 1) w) (stored (place_in (find rs n.text main_scope)) z w) p.clock.left w (number_of k) q.clock.left v i) m l
 
   pub store_on : {u o : Unit {0}} (y : ℤ) (k : ℕ) (vars' : List ℤ) → r ≡ Ok o → y ≡ z → k ≡ place_in (find rs (part s (get_or tr (i + 2) 0) (get_or tr (i + 3) 0)) main_scope)
-      → ((lent vs : List ℤ) → vars ≡ onto lent vs → length vs ≡ e.vars → vars' ≡ onto lent (set vs k y)) → Ends e input lv lo vars' out p (store rs n z p.clock.left w) (Ok u) q
+      → ((lent vs : List ℤ) → vars ≡ onto lent vs → length vs ≡ e.vars → vars' ≡ onto lent (set vs k y)) → Ends e input lv lo vars' out p (store rs n z p.clock.left w) q (Ok u)
   unfolding store
   store_on {u} {o} y k vars' x c g v = of (rw x at (f e input lv lo vars out w h))
     where
@@ -72,10 +72,10 @@ module _ (rs : List Row) (s tr : List ℕ) (i : ℕ) (z : ℤ) (n : Name) (a : N
         few = m.few;
       }
 
-      of : Ends e input lv lo vars out p (step tt (at_top (p.clock.top - 1) w) p.clock.left w) (Ok o) q → Ends e input lv lo vars' out p (step tt (stored (place_in (find rs n.text main_scope)) z w) p.clock.left w) (Ok u) q
+      of : Ends e input lv lo vars out p (step tt (at_top (p.clock.top - 1) w) p.clock.left w) q (Ok o) → Ends e input lv lo vars' out p (step tt (stored (place_in (find rs n.text main_scope)) z w) p.clock.left w) q (Ok u)
       of (done t i m l) =
           let j = made (at_top (p.clock.top - 1) w) (stored (place_in (find rs n.text main_scope)) z w) p.clock.left w q.clock.left t i in
-          done {u = u} {q = q} (stored (place_in (find rs n.text main_scope)) z w) j.1 (held (rw (sym j.0) at m)) l
+          done {u = u} (stored (place_in (find rs n.text main_scope)) z w) j.1 (held (rw (sym j.0) at m)) l
 
 -- the parts of an assignment
 module _ {s tr : List ℕ} {i : ℕ} where
@@ -89,21 +89,21 @@ module _ {s tr : List ℕ} {i : ℕ} where
       of : {t : Stmt} → StmtIs (node_head assign_kind) t → StmtAt s tr i t → HasName s tr (i + 4)
       of (is_assign n x) a = record { name = n; at = assign_name a }
 
-module _ (rs : List Row) (s tr : List ℕ) (i : ℕ) (e : Env) (vars : List ℤ) (p : Progress) (k : get_or tr i 0 ≡ node_no assign_kind) {r : Answer ℤ Refusal} {d : Clock} (x : (t : Exp) → ExpAt s tr (i + 8) t → (w : State) → Shows vars e p.clock w → Gives (p.clock.top + 1) p.clock w (walk_exp rs t p.clock.left w) r d) where
+module _ (rs : List Row) (s tr : List ℕ) (i : ℕ) (e : Env) (vars : List ℤ) (p : Progress) (k : get_or tr i 0 ≡ node_no assign_kind) {r : Answer ℤ Refusal} {d : Clock} (x : (t : Exp) → ExpAt s tr (i + 8) t → (w : State) → Shows vars e p.clock w → Gives (p.clock.top + 1) p.clock w (walk_exp rs t p.clock.left w) d r) where
   abbrev Meet : List ℤ → Answer (Unit {0}) Refusal → Progress → Type 0
-  Meet vars' u q = (t : Stmt) → StmtAt s tr i t → (room : ℕ) (input : List ℕ) (lv : List ℤ) (lo out : List ℕ) (w : State) → Holds e input lv lo vars out p w → Ends e input lv lo vars' out p (walk_stmt rs room t p.clock.left w) u q
+  Meet vars' u q = (t : Stmt) → StmtAt s tr i t → (room : ℕ) (input : List ℕ) (lv : List ℤ) (lo out : List ℕ) (w : State) → Holds e input lv lo vars out p w → Ends e input lv lo vars' out p (walk_stmt rs room t p.clock.left w) q u
 
   pub assign_stop : {m : Refusal} → r ≡ Err m → Meet vars (Err m) (with_clock p d)
   unfolding walk_stmt
   assign_stop {m} g t a room input lv lo out w h = of (stmt_by (node_head assign_kind) k a) a
     where
-      of : {t : Stmt} → StmtIs (node_head assign_kind) t → StmtAt s tr i t → Ends e input lv lo vars out p (walk_stmt rs room t p.clock.left w) (Err m) (with_clock p d)
+      of : {t : Stmt} → StmtIs (node_head assign_kind) t → StmtAt s tr i t → Ends e input lv lo vars out p (walk_stmt rs room t p.clock.left w) (with_clock p d) (Err m)
       of (is_assign n y) b = exp_stop h (x y (assigned n y b) w (shown h)) g (λ z. store rs n z)
 
   pub assign_on : {z v : ℤ} {vars' : List ℤ} {u : Answer (Unit {0}) Refusal} {q : Progress} → r ≡ Ok z → v ≡ z
-      → ((n : Name) → NameAt s tr (i + 4) n → (input : List ℕ) (lv : List ℤ) (lo out : List ℕ) (w : State) → Holds e input lv lo vars out (with_clock p d) w → Ends e input lv lo vars' out (with_clock p d) (store rs n v d.left w) u q) → Meet vars' u q
+      → ((n : Name) → NameAt s tr (i + 4) n → (input : List ℕ) (lv : List ℤ) (lo out : List ℕ) (w : State) → Holds e input lv lo vars out (with_clock p d) w → Ends e input lv lo vars' out (with_clock p d) (store rs n v d.left w) q u) → Meet vars' u q
   unfolding walk_stmt
   assign_on {z} {v} {vars'} {u} {q} g c f t a room input lv lo out w h = of (stmt_by (node_head assign_kind) k a) a
     where
-      of : {t : Stmt} → StmtIs (node_head assign_kind) t → StmtAt s tr i t → Ends e input lv lo vars' out p (walk_stmt rs room t p.clock.left w) u q
+      of : {t : Stmt} → StmtIs (node_head assign_kind) t → StmtAt s tr i t → Ends e input lv lo vars' out p (walk_stmt rs room t p.clock.left w) q u
       of (is_assign n y) b = exp_then h (x y (assigned n y b) w (shown h)) g (λ z. store rs n z) (λ held. rw (← c) (f n (assign_name b) input lv lo out (at_top d.top w) held))

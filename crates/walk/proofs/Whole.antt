@@ -124,39 +124,39 @@ first_held e input vars out budget f l z =
     }
 
 -- the two steps at the start
-module _ (v : ℕ) {p : Progress} (z : p.clock.top ≡ 0) {r : Answer (Unit {0}) Refusal} {q : Progress} (x : Steps p (at_top 0) r q) where
+module _ (v : ℕ) {p : Progress} (z : p.clock.top ≡ 0) {r : Answer (Unit {0}) Refusal} {q : Progress} (x : Steps p (at_top 0) q r) where
   -- the first of them changes nothing
-  first_step : {e : Env} {input : List ℕ} {lv : List ℤ} {lo : List ℕ} {vars : List ℤ} {out : List ℕ} {w : State} → Holds e input lv lo vars out p w → Ends e input lv lo vars out p (tick p.clock.left w) r q
+  first_step : {e : Env} {input : List ℕ} {lv : List ℤ} {lo : List ℕ} {vars : List ℤ} {out : List ℕ} {w : State} → Holds e input lv lo vars out p w → Ends e input lv lo vars out p (tick p.clock.left w) q r
   first_step {e} {input} {lv} {lo} {vars} {out} {w} h = rw (at_top_lem w 0 (h.top ∙ z)) at (x e input lv lo vars out w h)
 
-  pub open_stop : {k : Refusal} → r ≡ Err k → (rs : List Row) {e : Env} {input : List ℕ} {lv : List ℤ} {lo : List ℕ} {vars : List ℤ} {out : List ℕ} {w : State} (t : Stmt) → Holds e input lv lo vars out p w → Ends e input lv lo vars out p (main_walk rs (length lo) v t p.clock.left w) (Err k) q
+  pub open_stop : {k : Refusal} → r ≡ Err k → (rs : List Row) {e : Env} {input : List ℕ} {lv : List ℤ} {lo : List ℕ} {vars : List ℤ} {out : List ℕ} {w : State} (t : Stmt) → Holds e input lv lo vars out p w → Ends e input lv lo vars out p (main_walk rs (length lo) v t p.clock.left w) q (Err k)
   open_stop y rs {lo = lo} t h = ends_halt refl (ends_halt y (first_step h) (λ u. opened v)) (λ u. part_walk rs (length lo) t)
 
-  module _ {u : Unit {0}} (y : r ≡ Ok u) {s : Answer (Unit {0}) Refusal} {g : Progress} (f : Steps q (at_top (links + v)) s g) where
-    both_steps : {e : Env} {input : List ℕ} {lv : List ℤ} {lo : List ℕ} {vars : List ℤ} {out : List ℕ} {w : State} → Holds e input lv lo vars out p w → Ends e input lv lo vars out p (open_walk v p.clock.left w) s g
+  module _ {u : Unit {0}} (y : r ≡ Ok u) {s : Answer (Unit {0}) Refusal} {g : Progress} (f : Steps q (at_top (links + v)) g s) where
+    both_steps : {e : Env} {input : List ℕ} {lv : List ℤ} {lo : List ℕ} {vars : List ℤ} {out : List ℕ} {w : State} → Holds e input lv lo vars out p w → Ends e input lv lo vars out p (open_walk v p.clock.left w) g s
     both_steps {e} {input} {lv} {lo} {vars} {out} {w} h = ends_then y (first_step h) (λ u. opened v) (λ t held. f e input lv lo vars out t held)
 
-    pub open_halt : {k : Refusal} → s ≡ Err k → (rs : List Row) {e : Env} {input : List ℕ} {lv : List ℤ} {lo : List ℕ} {vars : List ℤ} {out : List ℕ} {w : State} (t : Stmt) → Holds e input lv lo vars out p w → Ends e input lv lo vars out p (main_walk rs (length lo) v t p.clock.left w) (Err k) g
+    pub open_halt : {k : Refusal} → s ≡ Err k → (rs : List Row) {e : Env} {input : List ℕ} {lv : List ℤ} {lo : List ℕ} {vars : List ℤ} {out : List ℕ} {w : State} (t : Stmt) → Holds e input lv lo vars out p w → Ends e input lv lo vars out p (main_walk rs (length lo) v t p.clock.left w) g (Err k)
     open_halt w rs {lo = lo} t h = ends_halt w (both_steps h) (λ u. part_walk rs (length lo) t)
 
     module _ {o : Unit {0}} (w : s ≡ Ok o) where
       pub open_held : {e : Env} {input : List ℕ} {vars : List ℤ} {out : List ℕ} → HasState e input vars out p → HasState e input vars out g
       open_held {e} {input} {vars} {out} h = of (rw w at (both_steps h.holds))
         where
-          of : Ends e input h.lv h.lo vars out p (open_walk v p.clock.left h.state) (Ok o) g → HasState e input vars out g
+          of : Ends e input h.lv h.lo vars out p (open_walk v p.clock.left h.state) g (Ok o) → HasState e input vars out g
           of (done w i m l) = record { lv = h.lv; lo = h.lo; state = w; holds = m }
 
       pub open_on : (rs : List Row) {e : Env} {input : List ℕ} {lv : List ℤ} {lo : List ℕ} {vars vars' : List ℤ} {out out' : List ℕ} {w : State} (t : Stmt) {l : Answer (Unit {0}) Refusal} {d : Progress} → Holds e input lv lo vars out p w
-          → ((w : State) → Holds e input lv lo vars out g w → Ends e input lv lo vars' out' g (part_walk rs (length lo) t g.clock.left w) l d) → Ends e input lv lo vars' out' p (main_walk rs (length lo) v t p.clock.left w) l d
+          → ((w : State) → Holds e input lv lo vars out g w → Ends e input lv lo vars' out' g (part_walk rs (length lo) t g.clock.left w) d l) → Ends e input lv lo vars' out' p (main_walk rs (length lo) v t p.clock.left w) d l
       open_on rs {lo = lo} t h f = ends_then w (both_steps h) (λ u. part_walk rs (length lo) t) f
 
 -- how the walk ended
-ended : {e : Env} {input : List ℕ} {lv : List ℤ} {lo : List ℕ} {vars : List ℤ} {out : List ℕ} {p : Progress} {o : Result (Unit {0})} {r : Answer (Unit {0}) Refusal} {q : Progress} → e.vars ≤ max_variables → Ends e input lv lo vars out p o r q → Walks (walked o) p.clock.left lv lo vars out r q
+ended : {e : Env} {input : List ℕ} {lv : List ℤ} {lo : List ℕ} {vars : List ℤ} {out : List ℕ} {p : Progress} {o : Result (Unit {0})} {r : Answer (Unit {0}) Refusal} {q : Progress} → e.vars ≤ max_variables → Ends e input lv lo vars out p o q r → Walks (walked o) p.clock.left lv lo vars out q r
 unfolding walked
-ended {e} {input} {lv} {lo} {vars} {out} {p} {o} f (done {u} {q} w i h l) =
-    rw i (finished {u = u} {q = q} (record { number = refl; left = refl; most = l; written = sym h.written; lines = h.lines; out_is = h.out_is; vars_are = h.vars_are; few = omega (arith, h.many, f) }))
-ended {e} {input} {lv} {lo} {vars} {out} {p} {o} f (refused {k} {q} w i h l) =
-    rw i (halted {k = k} {q = q} (record { number = refl; left = refl; most = l; written = sym h.written; lines = h.lines; out_is = h.out_is; vars_are = h.vars_are; few = omega (arith, h.many, f) }))
+ended {e} {input} {lv} {lo} {vars} {out} {p} {o} f (done {u} w i h l) =
+    rw i (finished {u = u} (record { number = refl; left = refl; most = l; written = sym h.written; lines = h.lines; out_is = h.out_is; vars_are = h.vars_are; few = omega (arith, h.many, f) }))
+ended {e} {input} {lv} {lo} {vars} {out} {p} {o} f (refused {k} w i h l) =
+    rw i (halted {k = k} (record { number = refl; left = refl; most = l; written = sym h.written; lines = h.lines; out_is = h.out_is; vars_are = h.vars_are; few = omega (arith, h.many, f) }))
 
 -- the whole
 module _ (e : Env) (input : List ℕ) (budget : ℕ) (vars : List ℤ) (out : List ℕ) {i : ℕ} (f : After e.tree.now 4 i) (n : e.vars ≡ get_or e.tree.now (i + 2) 0) where
@@ -184,6 +184,6 @@ module _ (e : Env) (input : List ℕ) (budget : ℕ) (vars : List ℤ) (out : Li
         block_is a input budget (length out) ∙ rw (sym (count_is a)) (ap walked (then_assoc (tick budget (begin e.vars input)) (λ u. opened e.vars) (λ u. walk_stmts (rows_of e) (length out) b.main >> tick)))
 
     pub whole_walked : {j m : ℕ} {vars' : List ℤ} {out' : List ℕ} {r : Answer (Unit {0}) Refusal} {q : Progress} → After e.tree.now i j → After e.tree.now j m
-        → ((t : Stmt) → StmtAt e.text.now e.tree.now m t → (lv : List ℤ) (lo : List ℕ) (w : State) → Holds e input lv lo vars out (start_of budget) w → Ends e input lv lo vars' out' (start_of budget) (main_walk (rows_of e) (length lo) e.vars t budget w) r q)
-        → (b : Block) → TreeAt e.text.now e.tree.now e.table.now e.used b → Walks (walk_block b input budget (length out)) budget vars out vars' out' r q
+        → ((t : Stmt) → StmtAt e.text.now e.tree.now m t → (lv : List ℤ) (lo : List ℕ) (w : State) → Holds e input lv lo vars out (start_of budget) w → Ends e input lv lo vars' out' (start_of budget) (main_walk (rows_of e) (length lo) e.vars t budget w) q r)
+        → (b : Block) → TreeAt e.text.now e.tree.now e.table.now e.used b → Walks (walk_block b input budget (length out)) budget vars out vars' out' q r
     whole_walked g h p b a = rw (main_is a) (ended (few_vars a) (p (body b.main) (main_in a f g h) vars out (begin e.vars input) (first a)))

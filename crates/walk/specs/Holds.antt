@@ -35,26 +35,26 @@ pub record HasState (e : Env) (input : List ℕ) (vars : List ℤ) (out : List �
   pub holds : Holds e input lv lo vars out p state
 
 -- what a statement's answer, and how far the walk is then, say of the definition's, from p on
-pub data Ends (e : Env) (input : List ℕ) (lv : List ℤ) (lo : List ℕ) (vars : List ℤ) (out : List ℕ) (p : Progress) (o : Result (Unit {0})) : Answer (Unit {0}) Refusal → Progress → Type 0 where
-  done : {u : Unit {0}} {q : Progress} (w : State) → o ≡ ok tt q.clock.left w → Holds e input lv lo vars out q w → q.clock.left ≤ p.clock.left → Ends e input lv lo vars out p o (Ok u) q
-  refused : {k : Refusal} {q : Progress} (w : State) → o ≡ stop (number_of k) q.clock.left w → Holds e input lv lo vars out q w → q.clock.left ≤ p.clock.left → Ends e input lv lo vars out p o (Err k) q
+pub data Ends (e : Env) (input : List ℕ) (lv : List ℤ) (lo : List ℕ) (vars : List ℤ) (out : List ℕ) (p : Progress) (o : Result (Unit {0})) (q : Progress) : Answer (Unit {0}) Refusal → Type 0 where
+  done : {u : Unit {0}} (w : State) → o ≡ ok tt q.clock.left w → Holds e input lv lo vars out q w → q.clock.left ≤ p.clock.left → Ends e input lv lo vars out p o q (Ok u)
+  refused : {k : Refusal} (w : State) → o ≡ stop (number_of k) q.clock.left w → Holds e input lv lo vars out q w → q.clock.left ≤ p.clock.left → Ends e input lv lo vars out p o q (Err k)
 
 -- one step, from every state that p shows
-abbrev pub Steps : Progress → (State → State) → Answer (Unit {0}) Refusal → Progress → Type 0
-Steps p f r q = (e : Env) (input : List ℕ) (lv : List ℤ) (lo : List ℕ) (vars : List ℤ) (out : List ℕ) (w : State) → Holds e input lv lo vars out p w → Ends e input lv lo vars out p (step tt (f w) p.clock.left w) r q
+abbrev pub Steps : Progress → (State → State) → Progress → Answer (Unit {0}) Refusal → Type 0
+Steps p f q r = (e : Env) (input : List ℕ) (lv : List ℤ) (lo : List ℕ) (vars : List ℤ) (out : List ℕ) (w : State) → Holds e input lv lo vars out p w → Ends e input lv lo vars out p (step tt (f w) p.clock.left w) q r
 
 -- one name of a `read`
 abbrev pub read_walk : List Row → ℕ → Name → Walk (Unit {0})
 read_walk rs room n = read_line room >>= λ z. store rs n z
 
 -- what reading a line says of the definition's, from p on
-pub data Reads (e : Env) (input : List ℕ) (lv : List ℤ) (lo : List ℕ) (vars : List ℤ) (out : List ℕ) (p : Progress) (o : Result ℤ) : Answer ℤ Refusal → Progress → Type 0 where
-  read : {z : ℤ} {q : Progress} (w : State) → o ≡ ok z q.clock.left w → Holds e input lv lo vars out q w → q.clock.left ≤ p.clock.left → Reads e input lv lo vars out p o (Ok z) q
-  unread : {k : Refusal} {q : Progress} (w : State) → o ≡ stop (number_of k) q.clock.left w → Holds e input lv lo vars out q w → q.clock.left ≤ p.clock.left → Reads e input lv lo vars out p o (Err k) q
+pub data Reads (e : Env) (input : List ℕ) (lv : List ℤ) (lo : List ℕ) (vars : List ℤ) (out : List ℕ) (p : Progress) (o : Result ℤ) (q : Progress) : Answer ℤ Refusal → Type 0 where
+  read : {z : ℤ} (w : State) → o ≡ ok z q.clock.left w → Holds e input lv lo vars out q w → q.clock.left ≤ p.clock.left → Reads e input lv lo vars out p o q (Ok z)
+  unread : {k : Refusal} (w : State) → o ≡ stop (number_of k) q.clock.left w → Holds e input lv lo vars out q w → q.clock.left ≤ p.clock.left → Reads e input lv lo vars out p o q (Err k)
 
 -- a line that is read, from every state that p shows; after a number the top is one more
-pub record Enters (input before after : List ℕ) (p : Progress) (r : Answer ℤ Refusal) (q : Progress) : Type 0 where
-  pub reads : (e : Env) (lv : List ℤ) (lo : List ℕ) (vars : List ℤ) (w : State) → Holds e input lv lo vars before p w → Reads e input lv lo vars after p (read_line (length lo) p.clock.left w) r q
+pub record Enters (input before after : List ℕ) (p q : Progress) (r : Answer ℤ Refusal) : Type 0 where
+  pub reads : (e : Env) (lv : List ℤ) (lo : List ℕ) (vars : List ℤ) (w : State) → Holds e input lv lo vars before p w → Reads e input lv lo vars after p (read_line (length lo) p.clock.left w) q r
   pub top : (z : ℤ) → r ≡ Ok z → 1 ≤ q.clock.top
 
 -- one number of a `write`
@@ -62,5 +62,5 @@ abbrev pub write_walk : List Row → ℕ → Exp → Walk (Unit {0})
 write_walk rs room t = walk_exp rs t >>= λ z. put_number room z
 
 -- bytes that are written, from every state that p shows
-abbrev pub Writes : List ℕ → List ℕ → List ℕ → Progress → Answer (Unit {0}) Refusal → Progress → Type 0
-Writes bs before after p r q = (e : Env) (input : List ℕ) (lv : List ℤ) (lo : List ℕ) (vars : List ℤ) (w : State) → Holds e input lv lo vars before p w → Ends e input lv lo vars after p (put (length lo) bs w.top p.clock.left w) r q
+abbrev pub Writes : List ℕ → List ℕ → List ℕ → Progress → Progress → Answer (Unit {0}) Refusal → Type 0
+Writes bs before after p q r = (e : Env) (input : List ℕ) (lv : List ℤ) (lo : List ℕ) (vars : List ℤ) (w : State) → Holds e input lv lo vars before p w → Ends e input lv lo vars after p (put (length lo) bs w.top p.clock.left w) q r

@@ -62,6 +62,6 @@ pub record Halted (c : Clock) (w : State) (o : Result ℤ) (k : Refusal) (d : Cl
   pub less : d.left ≤ c.left
 
 -- what an expression's answer, and the clock after it, say of the definition's, from the clock c and the state w on, where a value leaves the top at n
-pub data Gives (n : ℕ) (c : Clock) (w : State) (o : Result ℤ) : Answer ℤ Refusal → Clock → Type 0 where
-  gives : {z : ℤ} {d : Clock} → Went n c w o z d → Gives n c w o (Ok z) d
-  halts : {k : Refusal} {d : Clock} → Halted c w o k d → Gives n c w o (Err k) d
+pub data Gives (n : ℕ) (c : Clock) (w : State) (o : Result ℤ) (d : Clock) : Answer ℤ Refusal → Type 0 where
+  gives : {z : ℤ} → Went n c w o z d → Gives n c w o d (Ok z)
+  halts : {k : Refusal} → Halted c w o k d → Gives n c w o d (Err k)

@@ -19,7 +19,7 @@ abbrev pub part_walk : List Row → ℕ → Stmt → Walk (Unit {0})
 part_walk rs room t = walk_stmt rs room t >> tick
 
 -- what the answer says, and how far the walk is then
-pub data Tests (e : Env) (input : List ℕ) (lv : List ℤ) (lo : List ℕ) (vars : List ℤ) (out : List ℕ) (p : Progress) (o : Result ℤ) : Answer Bool Refusal → Progress → Type 0 where
-  passed : {q : Progress} (z : ℤ) (w : State) → eq_z z (pos 0) ≡ false → o ≡ ok z q.clock.left w → Holds e input lv lo vars out q w → q.clock.left < p.clock.left → Tests e input lv lo vars out p o (Ok true) q
-  failed : {q : Progress} (z : ℤ) (w : State) → eq_z z (pos 0) ≡ true → o ≡ ok z q.clock.left w → Holds e input lv lo vars out q w → q.clock.left < p.clock.left → Tests e input lv lo vars out p o (Ok false) q
-  stopped : {k : Refusal} {q : Progress} (w : State) → o ≡ stop (number_of k) q.clock.left w → Holds e input lv lo vars out q w → q.clock.left ≤ p.clock.left → Tests e input lv lo vars out p o (Err k) q
+pub data Tests (e : Env) (input : List ℕ) (lv : List ℤ) (lo : List ℕ) (vars : List ℤ) (out : List ℕ) (p : Progress) (o : Result ℤ) (q : Progress) : Answer Bool Refusal → Type 0 where
+  passed : (z : ℤ) (w : State) → eq_z z (pos 0) ≡ false → o ≡ ok z q.clock.left w → Holds e input lv lo vars out q w → q.clock.left < p.clock.left → Tests e input lv lo vars out p o q (Ok true)
+  failed : (z : ℤ) (w : State) → eq_z z (pos 0) ≡ true → o ≡ ok z q.clock.left w → Holds e input lv lo vars out q w → q.clock.left < p.clock.left → Tests e input lv lo vars out p o q (Ok false)
+  stopped : {k : Refusal} (w : State) → o ≡ stop (number_of k) q.clock.left w → Holds e input lv lo vars out q w → q.clock.left ≤ p.clock.left → Tests e input lv lo vars out p o q (Err k)

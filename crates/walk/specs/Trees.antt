@@ -59,6 +59,6 @@ pub record Left (x : Walked) (budget : ℕ) (vars : List ℤ) (out : List ℕ) (
   pub few : length x.final.vars ≤ max_variables
 
 -- as the answer says
-pub data Walks (x : Walked) (budget : ℕ) (vars : List ℤ) (out : List ℕ) (vars' : List ℤ) (out' : List ℕ) : Answer (Unit {0}) Refusal → Progress → Type 0 where
-  finished : {u : Unit {0}} {q : Progress} → Left x budget vars out vars' out' done q → Walks x budget vars out vars' out' (Ok u) q
-  halted : {k : Refusal} {q : Progress} → Left x budget vars out vars' out' (number_of k) q → Walks x budget vars out vars' out' (Err k) q
+pub data Walks (x : Walked) (budget : ℕ) (vars : List ℤ) (out : List ℕ) (vars' : List ℤ) (out' : List ℕ) (q : Progress) : Answer (Unit {0}) Refusal → Type 0 where
+  finished : {u : Unit {0}} → Left x budget vars out vars' out' done q → Walks x budget vars out vars' out' q (Ok u)
+  halted : {k : Refusal} → Left x budget vars out vars' out' (number_of k) q → Walks x budget vars out vars' out' q (Err k)

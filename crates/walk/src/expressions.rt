@@ -2,7 +2,7 @@
 ghost use Rattle.std.specs.Prelude.{◌≡◌, List, ◌+◌, ◌-◌, ◌*◌, ◌≤◌, ◌<◌, ℤ, pos, length, get_or};
 ghost use Rattle.numbers.specs.Limits.{greatest};
 ghost use Rattle.numbers.specs.Stack.{links};
-ghost use Rattle.numbers.specs.Arithmetic.{Arith, Compare};
+ghost use Rattle.numbers.specs.Arithmetic.{Arith as Operator, Compare as Comparison};
 ghost use Rattle.numbers.specs.Answers.{val_of, arith_of, compare_of};
 ghost use Rattle.tree.specs.Tree.{Exp, Cond};
 ghost use Rattle.tree.specs.Layout.{chain_kind, node_no};
@@ -41,7 +41,7 @@ pub struct Clock {
 
 // One step that pushes a value: 16, then 17.
 pub fn push(z: i64, clock: &mut Clock) -> Result<i64, Refusal>
-    ensures { (w : State) → w.top ≡ clock.old.top → Gives (clock.old.top + 1) clock.old w (push z clock.old.left w) result clock.new }
+    ensures { (w : State) → w.top ≡ clock.old.top → Gives (clock.old.top + 1) clock.old w (push z clock.old.left w) clock.new result }
 {
     if clock.left == 0 {
         return Err(Refusal::BudgetSpent);
@@ -56,7 +56,7 @@ pub fn push(z: i64, clock: &mut Clock) -> Result<i64, Refusal>
 
 // One step of an operator, after which the top is `top`: 16, then the operator's own refusal.
 fn settle(answer: Result<i64, Refusal>, top: usize, clock: &mut Clock) -> Result<i64, Refusal>
-    ensures { (w : State) → w.top ≡ clock.old.top → Gives top clock.old w (ended top (val_of answer) clock.old.left w) result clock.new }
+    ensures { (w : State) → w.top ≡ clock.old.top → Gives top clock.old w (ended top (val_of answer) clock.old.left w) clock.new result }
 {
     if clock.left == 0 {
         return Err(Refusal::BudgetSpent);
@@ -96,20 +96,20 @@ fn value_of(env: &Env<'_>, vars: &[i64], at: u32, len: u32) -> i64
     requires len_in_bounds { at + len ≤ length env.now.text.now }
     ensures { (vs : List ℤ) → Cells vars.now env.now.vars vs → result ≡ value_in (find (rows_of env.now) (part env.now.text.now at len) main_scope) vs }
 {
-    let Some(row) = symbols::find(env.text, env.table, env.used, at, len) else {
+    let symbols::Found::At(row) = symbols::find(env.text, env.table, env.used, at, len) else {
         return 0;
     };
     let symbol = symbols::read_row(env.table, row);
     match symbol.kind {
-        symbols::Kind::Constant => whole(symbol.low, symbol.high),
-        symbols::Kind::Variable => variable(vars, env.vars, place_of(symbol.address)),
-        symbols::Kind::Procedure => 0,
+        1 => whole(symbol.low, symbol.high),
+        2 => variable(vars, env.vars, place_of(symbol.address)),
+        _ => 0,
     }
 }
 
 // An operator by its number in the tree.
 fn operator(op: u32) -> Arith
-    ensures { (o : Arith) → op ≡ arith_no o → arith_of result ≡ o }
+    ensures { (o : Operator) → op ≡ arith_no o → arith_of result ≡ o }
 {
     match op {
         1 => Arith::Add,
@@ -121,7 +121,7 @@ fn operator(op: u32) -> Arith
 
 // A comparison by its number in the tree.
 fn comparison(op: u32) -> Compare
-    ensures { (o : Compare) → op ≡ compare_no o → compare_of result ≡ o }
+    ensures { (o : Comparison) → op ≡ compare_no o → compare_of result ≡ o }
 {
     match op {
         1 => Compare::Equal,
@@ -138,7 +138,7 @@ fn comparison(op: u32) -> Compare
 pub fn exp(env: &Env<'_>, i: usize, vars: &[i64], clock: &mut Clock) -> Result<i64, Refusal>
     requires known { Known env.now vars.now }
     requires has_exp { HasExp env.now.text.now env.now.tree.now i }
-    ensures { (t : Exp) → ExpAt env.now.text.now env.now.tree.now i t → (w : State) → Shows vars.now env.now clock.old w → Gives (clock.old.top + 1) clock.old w (walk_exp (rows_of env.now) t clock.old.left w) result clock.new }
+    ensures { (t : Exp) → ExpAt env.now.text.now env.now.tree.now i t → (w : State) → Shows vars.now env.now clock.old w → Gives (clock.old.top + 1) clock.old w (walk_exp (rows_of env.now) t clock.old.left w) clock.new result }
 {
     match tree::kind_at(env.tree, i) {
         Kind::Chain => chain(env, i, vars, clock),
@@ -154,7 +154,7 @@ pub fn exp(env: &Env<'_>, i: usize, vars: &[i64], clock: &mut Clock) -> Result<i
 fn negated(env: &Env<'_>, i: usize, vars: &[i64], clock: &mut Clock) -> Result<i64, Refusal>
     requires known { Known env.now vars.now }
     requires has_exp { HasExp env.now.text.now env.now.tree.now i }
-    ensures { (t : Exp) → ExpAt env.now.text.now env.now.tree.now i t → (w : State) → Shows vars.now env.now clock.old w → Gives (clock.old.top + 1) clock.old w (neg_walk (rows_of env.now) t clock.old.left w) result clock.new }
+    ensures { (t : Exp) → ExpAt env.now.text.now env.now.tree.now i t → (w : State) → Shows vars.now env.now clock.old w → Gives (clock.old.top + 1) clock.old w (neg_walk (rows_of env.now) t clock.old.left w) clock.new result }
 {
     let z = exp(env, i, vars, clock)?;
     settle(arithmetic::negate(z), clock.top, clock)
@@ -171,7 +171,7 @@ fn linked(
 ) -> Result<i64, Refusal>
     requires known { Known env.now vars.now }
     requires has_exp { HasExp env.now.text.now env.now.tree.now j }
-    ensures { (o : Arith) (t : Exp) → get_or env.now.tree.now (j + 1) 0 ≡ arith_no o → ExpAt env.now.text.now env.now.tree.now j t → (w : State) → Shows vars.now env.now clock.old w → Gives clock.old.top clock.old w (link_walk (rows_of env.now) o x t clock.old.left w) result clock.new }
+    ensures { (o : Operator) (t : Exp) → get_or env.now.tree.now (j + 1) 0 ≡ arith_no o → ExpAt env.now.text.now env.now.tree.now j t → (w : State) → Shows vars.now env.now clock.old w → Gives clock.old.top clock.old w (link_walk (rows_of env.now) o x t clock.old.left w) clock.new result }
 {
     let y = exp(env, j, vars, clock)?;
     let answer = operator(env.tree[j + 1]).apply(x, y);
@@ -184,7 +184,7 @@ fn chain(env: &Env<'_>, i: usize, vars: &[i64], clock: &mut Clock) -> Result<i64
     requires known { Known env.now vars.now }
     requires has_exp { HasExp env.now.text.now env.now.tree.now i }
     requires has_kind { get_or env.now.tree.now i 0 ≡ node_no chain_kind }
-    ensures { (t : Exp) → ExpAt env.now.text.now env.now.tree.now i t → (w : State) → Shows vars.now env.now clock.old w → Gives (clock.old.top + 1) clock.old w (walk_exp (rows_of env.now) t clock.old.left w) result clock.new }
+    ensures { (t : Exp) → ExpAt env.now.text.now env.now.tree.now i t → (w : State) → Shows vars.now env.now clock.old w → Gives (clock.old.top + 1) clock.old w (walk_exp (rows_of env.now) t clock.old.left w) clock.new result }
 {
     let count = tree::number_at(env.tree, i + 2);
     let mut x = exp(env, i + 4, vars, clock)?;
@@ -200,7 +200,7 @@ fn chain(env: &Env<'_>, i: usize, vars: &[i64], clock: &mut Clock) -> Result<i64
 pub fn cond(env: &Env<'_>, i: usize, vars: &[i64], clock: &mut Clock) -> Result<i64, Refusal>
     requires known { Known env.now vars.now }
     requires has_cond { HasCond env.now.text.now env.now.tree.now i }
-    ensures { (t : Cond) → CondAt env.now.text.now env.now.tree.now i t → (w : State) → Shows vars.now env.now clock.old w → Gives (clock.old.top + 1) clock.old w (walk_cond (rows_of env.now) t clock.old.left w) result clock.new }
+    ensures { (t : Cond) → CondAt env.now.text.now env.now.tree.now i t → (w : State) → Shows vars.now env.now clock.old w → Gives (clock.old.top + 1) clock.old w (walk_cond (rows_of env.now) t clock.old.left w) clock.new result }
 {
     let x = exp(env, i + 4, vars, clock)?;
     if tree::kind_at(env.tree, i) == Kind::Odd {
@@ -221,7 +221,7 @@ fn related(
 ) -> Result<i64, Refusal>
     requires known { Known env.now vars.now }
     requires has_exp { HasExp env.now.text.now env.now.tree.now i }
-    ensures { (t : Exp) → ExpAt env.now.text.now env.now.tree.now i t → (w : State) → Shows vars.now env.now clock.old w → Gives clock.old.top clock.old w (rel_walk (rows_of env.now) (compare_of op) x t clock.old.left w) result clock.new }
+    ensures { (t : Exp) → ExpAt env.now.text.now env.now.tree.now i t → (w : State) → Shows vars.now env.now clock.old w → Gives clock.old.top clock.old w (rel_walk (rows_of env.now) (compare_of op) x t clock.old.left w) clock.new result }
 {
     let y = exp(env, i, vars, clock)?;
     let flag = arithmetic::flag_of(op.holds(x, y));

@@ -17,7 +17,7 @@ pub struct Progress {
 
 // One step after which the top is `top`.
 pub fn tick(progress: &mut Progress, top: usize) -> Result<(), Refusal>
-    ensures { Steps progress.old (at_top top) result progress.new }
+    ensures { Steps progress.old (at_top top) progress.new result }
 {
     if progress.clock.left == 0 {
         return Err(Refusal::BudgetSpent);

@@ -18,7 +18,7 @@ use numbers::{line, screen};
 // One step that reads a line: 16, 17 where there is no cell, 22, then 23 for the prompt.
 fn read_line(input: &[u8], progress: &mut Progress, out: &mut [u8]) -> Result<i64, Refusal>
     requires { progress.old.lines + progress.old.clock.left < 4294967296 }
-    ensures { Enters input.now out.old out.new progress.old result progress.new }
+    ensures { Enters input.now out.old out.new progress.old progress.new result }
 {
     if progress.clock.left == 0 {
         return Err(Refusal::BudgetSpent);
@@ -48,7 +48,7 @@ pub fn read_one(
     requires has_name { HasName env.now.text.now env.now.tree.now i }
     requires vars_in_bounds { env.now.vars ≤ length vars.old }
     requires left_bound { progress.old.lines + progress.old.clock.left < 4294967296 }
-    ensures { (n : Name) → NameAt env.now.text.now env.now.tree.now i n → (lv : List ℤ) (lo : List ℕ) (w : State) → Holds env.now input.now lv lo vars.old out.old progress.old w → Ends env.now input.now lv lo vars.new out.new progress.old (read_walk (rows_of env.now) (length lo) n progress.old.clock.left w) result progress.new }
+    ensures { (n : Name) → NameAt env.now.text.now env.now.tree.now i n → (lv : List ℤ) (lo : List ℕ) (w : State) → Holds env.now input.now lv lo vars.old out.old progress.old w → Ends env.now input.now lv lo vars.new out.new progress.old (read_walk (rows_of env.now) (length lo) n progress.old.clock.left w) progress.new result }
 {
     let z = read_line(input, progress, out)?;
     store(env, i, z, progress, vars)
@@ -67,7 +67,7 @@ pub fn reads(
     requires has_stmt { HasStmt env.now.text.now env.now.tree.now i }
     requires has_kind { get_or env.now.tree.now i 0 ≡ node_no read_kind }
     requires has_state { HasState env.now input.now vars.old out.old progress.old }
-    ensures { (t : Stmt) → StmtAt env.now.text.now env.now.tree.now i t → (lv : List ℤ) (lo : List ℕ) (w : State) → Holds env.now input.now lv lo vars.old out.old progress.old w → Ends env.now input.now lv lo vars.new out.new progress.old (walk_stmt (rows_of env.now) (length lo) t progress.old.clock.left w) result progress.new }
+    ensures { (t : Stmt) → StmtAt env.now.text.now env.now.tree.now i t → (lv : List ℤ) (lo : List ℕ) (w : State) → Holds env.now input.now lv lo vars.old out.old progress.old w → Ends env.now input.now lv lo vars.new out.new progress.old (walk_stmt (rows_of env.now) (length lo) t progress.old.clock.left w) progress.new result }
 {
     let count = tree::number_at(env.tree, i + 2);
     let mut j = i + 4;

@@ -26,7 +26,7 @@ fn test(
 ) -> Result<bool, Refusal>
     requires known { Known env.now vars.now }
     requires has_cond { HasCond env.now.text.now env.now.tree.now i }
-    ensures { (t : Cond) → CondAt env.now.text.now env.now.tree.now i t → (input : List ℕ) (lv : List ℤ) (lo out : List ℕ) (w : State) → Holds env.now input lv lo vars.now out progress.old w → Tests env.now input lv lo vars.now out progress.old (test_walk (rows_of env.now) t progress.old.clock.left w) result progress.new }
+    ensures { (t : Cond) → CondAt env.now.text.now env.now.tree.now i t → (input : List ℕ) (lv : List ℤ) (lo out : List ℕ) (w : State) → Holds env.now input lv lo vars.now out progress.old w → Tests env.now input lv lo vars.now out progress.old (test_walk (rows_of env.now) t progress.old.clock.left w) progress.new result }
 {
     let z = expressions::cond(env, i, vars, &mut progress.clock)?;
     tick(progress, progress.clock.top)?;
@@ -46,7 +46,7 @@ pub fn part(
     requires rows { Rows env.now }
     requires has_stmt { HasStmt env.now.text.now env.now.tree.now i }
     requires has_state { HasState env.now input.now vars.old out.old progress.old }
-    ensures { (t : Stmt) → StmtAt env.now.text.now env.now.tree.now i t → (lv : List ℤ) (lo : List ℕ) (w : State) → Holds env.now input.now lv lo vars.old out.old progress.old w → Ends env.now input.now lv lo vars.new out.new progress.old (part_walk (rows_of env.now) (length lo) t progress.old.clock.left w) result progress.new }
+    ensures { (t : Stmt) → StmtAt env.now.text.now env.now.tree.now i t → (lv : List ℤ) (lo : List ℕ) (w : State) → Holds env.now input.now lv lo vars.old out.old progress.old w → Ends env.now input.now lv lo vars.new out.new progress.old (part_walk (rows_of env.now) (length lo) t progress.old.clock.left w) progress.new result }
 {
     statement(env, i, input, progress, vars, out)?;
     tick(progress, progress.clock.top)
@@ -66,7 +66,7 @@ fn conditional(
     requires has_stmt { HasStmt env.now.text.now env.now.tree.now i }
     requires has_kind { get_or env.now.tree.now i 0 ≡ node_no if_kind }
     requires has_state { HasState env.now input.now vars.old out.old progress.old }
-    ensures { (t : Stmt) → StmtAt env.now.text.now env.now.tree.now i t → (lv : List ℤ) (lo : List ℕ) (w : State) → Holds env.now input.now lv lo vars.old out.old progress.old w → Ends env.now input.now lv lo vars.new out.new progress.old (walk_stmt (rows_of env.now) (length lo) t progress.old.clock.left w) result progress.new }
+    ensures { (t : Stmt) → StmtAt env.now.text.now env.now.tree.now i t → (lv : List ℤ) (lo : List ℕ) (w : State) → Holds env.now input.now lv lo vars.old out.old progress.old w → Ends env.now input.now lv lo vars.new out.new progress.old (walk_stmt (rows_of env.now) (length lo) t progress.old.clock.left w) progress.new result }
 {
     let holds = test(env, i + 4, progress, vars)?;
     let inner = tree::after(env.tree, i + 4);
@@ -94,7 +94,7 @@ fn looped(
     requires has_stmt { HasStmt env.now.text.now env.now.tree.now i }
     requires has_kind { get_or env.now.tree.now i 0 ≡ node_no while_kind }
     requires has_state { HasState env.now input.now vars.old out.old progress.old }
-    ensures { (t : Stmt) → StmtAt env.now.text.now env.now.tree.now i t → (lv : List ℤ) (lo : List ℕ) (w : State) → Holds env.now input.now lv lo vars.old out.old progress.old w → Ends env.now input.now lv lo vars.new out.new progress.old (walk_stmt (rows_of env.now) (length lo) t progress.old.clock.left w) result progress.new }
+    ensures { (t : Stmt) → StmtAt env.now.text.now env.now.tree.now i t → (lv : List ℤ) (lo : List ℕ) (w : State) → Holds env.now input.now lv lo vars.old out.old progress.old w → Ends env.now input.now lv lo vars.new out.new progress.old (walk_stmt (rows_of env.now) (length lo) t progress.old.clock.left w) progress.new result }
 {
     let inner = tree::after(env.tree, i + 4);
     while test(env, i + 4, progress, vars)? {
@@ -117,7 +117,7 @@ pub fn body(
     requires has_stmt { HasStmt env.now.text.now env.now.tree.now i }
     requires has_kind { get_or env.now.tree.now i 0 ≡ node_no body_kind }
     requires has_state { HasState env.now input.now vars.old out.old progress.old }
-    ensures { (t : Stmt) → StmtAt env.now.text.now env.now.tree.now i t → (lv : List ℤ) (lo : List ℕ) (w : State) → Holds env.now input.now lv lo vars.old out.old progress.old w → Ends env.now input.now lv lo vars.new out.new progress.old (walk_stmt (rows_of env.now) (length lo) t progress.old.clock.left w) result progress.new }
+    ensures { (t : Stmt) → StmtAt env.now.text.now env.now.tree.now i t → (lv : List ℤ) (lo : List ℕ) (w : State) → Holds env.now input.now lv lo vars.old out.old progress.old w → Ends env.now input.now lv lo vars.new out.new progress.old (walk_stmt (rows_of env.now) (length lo) t progress.old.clock.left w) progress.new result }
 {
     let count = tree::number_at(env.tree, i + 2);
     let mut j = i + 4;
@@ -141,7 +141,7 @@ fn statement(
     requires rows { Rows env.now }
     requires has_stmt { HasStmt env.now.text.now env.now.tree.now i }
     requires has_state { HasState env.now input.now vars.old out.old progress.old }
-    ensures { (t : Stmt) → StmtAt env.now.text.now env.now.tree.now i t → (lv : List ℤ) (lo : List ℕ) (w : State) → Holds env.now input.now lv lo vars.old out.old progress.old w → Ends env.now input.now lv lo vars.new out.new progress.old (walk_stmt (rows_of env.now) (length lo) t progress.old.clock.left w) result progress.new }
+    ensures { (t : Stmt) → StmtAt env.now.text.now env.now.tree.now i t → (lv : List ℤ) (lo : List ℕ) (w : State) → Holds env.now input.now lv lo vars.old out.old progress.old w → Ends env.now input.now lv lo vars.new out.new progress.old (walk_stmt (rows_of env.now) (length lo) t progress.old.clock.left w) progress.new result }
 {
     match tree::kind_at(env.tree, i) {
         Kind::Assign => assign(env, i, progress, vars),

@@ -22,7 +22,7 @@ fn place(env: &Env<'_>, at: u32, len: u32) -> usize
     requires len_in_bounds { at + len ≤ length env.now.text.now }
     ensures { result ≡ place_in (find (rows_of env.now) (part env.now.text.now at len) main_scope) }
 {
-    let Some(row) = symbols::find(env.text, env.table, env.used, at, len) else {
+    let symbols::Found::At(row) = symbols::find(env.text, env.table, env.used, at, len) else {
         return 0;
     };
     expressions::place_of(symbols::read_row(env.table, row).address)
@@ -50,7 +50,7 @@ pub fn store(
     requires has_name { HasName env.now.text.now env.now.tree.now i }
     requires vars_in_bounds { env.now.vars ≤ length vars.old }
     requires le_top { 1 ≤ progress.old.clock.top }
-    ensures { (n : Name) → NameAt env.now.text.now env.now.tree.now i n → (input : List ℕ) (lv : List ℤ) (lo out : List ℕ) (w : State) → Holds env.now input lv lo vars.old out progress.old w → Ends env.now input lv lo vars.new out progress.old (store (rows_of env.now) n z progress.old.clock.left w) result progress.new }
+    ensures { (n : Name) → NameAt env.now.text.now env.now.tree.now i n → (input : List ℕ) (lv : List ℤ) (lo out : List ℕ) (w : State) → Holds env.now input lv lo vars.old out progress.old w → Ends env.now input lv lo vars.new out progress.old (store (rows_of env.now) n z progress.old.clock.left w) progress.new result }
 {
     tick(progress, progress.clock.top - 1)?;
     let k = place(env, env.tree[i + 2], env.tree[i + 3]);
@@ -69,7 +69,7 @@ pub fn assign(
     requires has_stmt { HasStmt env.now.text.now env.now.tree.now i }
     requires has_kind { get_or env.now.tree.now i 0 ≡ node_no assign_kind }
     requires vars_in_bounds { env.now.vars ≤ length vars.old }
-    ensures { (t : Stmt) → StmtAt env.now.text.now env.now.tree.now i t → (room : ℕ) (input : List ℕ) (lv : List ℤ) (lo out : List ℕ) (w : State) → Holds env.now input lv lo vars.old out progress.old w → Ends env.now input lv lo vars.new out progress.old (walk_stmt (rows_of env.now) room t progress.old.clock.left w) result progress.new }
+    ensures { (t : Stmt) → StmtAt env.now.text.now env.now.tree.now i t → (room : ℕ) (input : List ℕ) (lv : List ℤ) (lo out : List ℕ) (w : State) → Holds env.now input lv lo vars.old out progress.old w → Ends env.now input lv lo vars.new out progress.old (walk_stmt (rows_of env.now) room t progress.old.clock.left w) progress.new result }
 {
     let z = expressions::exp(env, i + 8, vars, &mut progress.clock)?;
     store(env, i + 4, z, progress, vars)

@@ -18,7 +18,7 @@ use numbers::screen;
 // One step that wrote its bytes, up to `end`, or could not: 23. The budget is not spent.
 fn wrote(end: Result<usize, Refusal>, progress: &mut Progress) -> Result<(), Refusal>
     requires { progress.old.clock.left ≡ 0 → ⊥ }
-    ensures { (bs before after : List ℕ) → Puts bs progress.old.written before after end → Writes bs before after progress.old result progress.new }
+    ensures { (bs before after : List ℕ) → Puts bs progress.old.written before after end → Writes bs before after progress.old progress.new result }
 {
     progress.written = end?;
     tick(progress, progress.clock.top)
@@ -26,7 +26,7 @@ fn wrote(end: Result<usize, Refusal>, progress: &mut Progress) -> Result<(), Ref
 
 // The newline of a `write`.
 pub fn write_line(progress: &mut Progress, out: &mut [u8]) -> Result<(), Refusal>
-    ensures { Writes newline out.old out.new progress.old result progress.new }
+    ensures { Writes newline out.old out.new progress.old progress.new result }
 {
     if progress.clock.left == 0 {
         return Err(Refusal::BudgetSpent);
@@ -44,7 +44,7 @@ pub fn write_one(
 ) -> Result<(), Refusal>
     requires known { Known env.now vars.now }
     requires has_exp { HasExp env.now.text.now env.now.tree.now i }
-    ensures { (t : Exp) → ExpAt env.now.text.now env.now.tree.now i t → (input : List ℕ) (lv : List ℤ) (lo : List ℕ) (w : State) → Holds env.now input lv lo vars.now out.old progress.old w → Ends env.now input lv lo vars.now out.new progress.old (write_walk (rows_of env.now) (length lo) t progress.old.clock.left w) result progress.new }
+    ensures { (t : Exp) → ExpAt env.now.text.now env.now.tree.now i t → (input : List ℕ) (lv : List ℤ) (lo : List ℕ) (w : State) → Holds env.now input lv lo vars.now out.old progress.old w → Ends env.now input lv lo vars.now out.new progress.old (write_walk (rows_of env.now) (length lo) t progress.old.clock.left w) progress.new result }
 {
     let z = expressions::exp(env, i, vars, &mut progress.clock)?;
     if progress.clock.left == 0 {
@@ -64,7 +64,7 @@ pub fn writes(
     requires known { Known env.now vars.now }
     requires has_stmt { HasStmt env.now.text.now env.now.tree.now i }
     requires has_kind { get_or env.now.tree.now i 0 ≡ node_no write_kind }
-    ensures { (t : Stmt) → StmtAt env.now.text.now env.now.tree.now i t → (input : List ℕ) (lv : List ℤ) (lo : List ℕ) (w : State) → Holds env.now input lv lo vars.now out.old progress.old w → Ends env.now input lv lo vars.now out.new progress.old (walk_stmt (rows_of env.now) (length lo) t progress.old.clock.left w) result progress.new }
+    ensures { (t : Stmt) → StmtAt env.now.text.now env.now.tree.now i t → (input : List ℕ) (lv : List ℤ) (lo : List ℕ) (w : State) → Holds env.now input lv lo vars.now out.old progress.old w → Ends env.now input lv lo vars.now out.new progress.old (walk_stmt (rows_of env.now) (length lo) t progress.old.clock.left w) progress.new result }
 {
     let count = tree::number_at(env.tree, i + 2);
     let mut j = i + 4;
