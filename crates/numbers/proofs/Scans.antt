@@ -15,18 +15,6 @@ use Rattle.std.proofs.lemmas.List.Recursion.{is_position_or_len}
 use Rattle.numbers.specs.Bytes.{span, every}
 
 module _ (p : ℕ → Bool) (s : List ℕ) (i : ℕ) where
-  pub span_end : length s ≤ i → span p (drop i s) ≡ 0
-  unfolding span
-  span_end h = rw (drop_of_length-le s h)
-
-  pub span_stop : i < length s → p (get_or s i 0) ≡ false → span p (drop i s) ≡ 0
-  unfolding span
-  span_stop h e = rw (drop-cons s i 0 h) (rw (e, span))
-
-  pub span_more : i < length s → p (get_or s i 0) ≡ true → span p (drop i s) ≡ span p (drop (i + 1) s) + 1
-  unfolding span
-  span_more h e = rw (drop-cons s i 0 h, add-one i) (rw (e, span) (sym (add-one _)))
-
   pub every_end : length s ≤ i → every p (drop i s) ≡ true
   every_end h = rw (drop_of_length-le s h)
 
@@ -66,9 +54,11 @@ until p fails opposite s r e = rw (e, ← same s) (by (ltb (span p s) (length s)
       where
         one_more : (n : ℕ) → 1 + n ≡ suc n
         one_more n = omega arith
+
         step : (x : ℕ) (xs : List ℕ) (t : Bool) → fails x ≡ t → span p (x ∷ xs) ≡ cond (fails x) 0 (1 + span p xs)
         step x xs true h = let e : p x ≡ false = opposite x ∙ ap not h in rw (h, e, span)
         step x xs false h = let e : p x ≡ true = opposite x ∙ ap not h in rw (h, e, span) (sym (one_more (span p xs)))
+
     by : (t : Bool) → ltb (span p s) (length s) ≡ t → unwrap_or (cond t (Some (span p s)) None) (length s) ≡ span p s
     by true h = refl
     by false h = omega (arith, ltb-false (span p s) (length s) h, span_le p s)

@@ -6,7 +6,7 @@ use native.Mathlib.Omega.{arith}
 use lib.IntN.{ℤ}
 use lib.Dec.{leb}
 use lib.ListN.{length, take, drop, length-append, length-drop}
-use lib.Seq.{drop-drop, paste, take-length, length-take-le, take_at, drop_at}
+use lib.Seq.{drop-drop, length-take-le, take_at, drop_at}
 use borrow.Author.Tests.{le-leb, leb-true}
 use borrow.Rule.Slice.PartMut.{put_mid, Post-is}
 use Rattle.std.specs.Prelude.{Result, Ok, Err}
@@ -15,10 +15,6 @@ use Rattle.numbers.specs.Bytes.{bytes}
 use Rattle.numbers.specs.Screen.{decimal, written}
 use Rattle.numbers.specs.Answers.{spliced, Wrote, Puts}
 use Rattle.numbers.proofs.Signs.{clash}
-
--- all of the bytes are pasted
-pub pasted : (out : List ℕ) (at : ℕ) (bs : List ℕ) (i : ℕ) → i ≡ length bs → paste out at bs i ≡ spliced out at bs
-pasted out at bs i e = rw (e, take-length bs) (append_assoc (take at out) bs (drop (at + length bs) out))
 
 -- a part that was lent is filled
 pub part_filled : (out bs : List ℕ) (at e : ℕ) → e ≡ at + length bs → put_mid at (e - at) out bs ≡ spliced out at bs

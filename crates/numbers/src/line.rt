@@ -94,5 +94,9 @@ pub fn next_entry(input: &[u8], at: usize) -> Result<(i64, usize), Refusal>
     let l = line(&input[at..]);
     let z = judge(l).ok_or(Refusal::BadEntry)?;
     let end = at + l.len();
-    if end < input.len() { Ok((z, end + 1)) } else { Ok((z, end)) }
+    if end < input.len() {
+        Ok((z, end + 1))
+    } else {
+        Ok((z, end))
+    }
 }

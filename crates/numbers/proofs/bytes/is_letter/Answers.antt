@@ -1,4 +1,3 @@
-use Rattle.numbers.specs.Arithmetic.{arith, compare}
 use Rattle.numbers.specs.Bytes.{is_blank, is_digit, is_letter, is_word_byte}
 use Rattle.std.proofs.Common.{rules}
 use Rattle.numbers.proofs.bytes.is_letter.Goals as goal

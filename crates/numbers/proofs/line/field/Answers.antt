@@ -1,5 +1,5 @@
 -- `line::field` meets its contract.
-use mathlib.Core.Path.{◌≡◌, refl, sym, ap, ◌∙◌}
+use mathlib.Core.Path.{◌≡◌, refl, ◌∙◌}
 use mathlib.Core.Bool.{Bool, true, false, not}
 use Prim.Native.Nat.{◌-◌}
 use lib.ListN.{length, take, drop}
@@ -25,4 +25,3 @@ returns c =
     let end = position_from_yields_List is_blank _ _ c.position-2.result c.position-2.ensures.ran (YieldsList-from_slice t (cc)) (λ x b q k. search (rules, tests)) in
     let n : c.unwrap_or-end.result ≡ span not_blank t = c.unwrap_or-end.ensures ∙ until not_blank is_blank (λ b. refl) t c.position-2.result end in
     rw (n, rest_of c.unwrap_or-start.result s, a)
-

@@ -1,5 +1,5 @@
 -- `line::number` meets its contract.
-use mathlib.Core.Path.{◌≡◌, refl, sym, ap, ◌∙◌}
+use mathlib.Core.Path.{sym, ◌∙◌}
 use Rattle.numbers.proofs.Scans.{rest_of}
 use Rattle.numbers.proofs.Fields.{value_none, value_minus, value_plus, value_plain}
 use Rattle.numbers.proofs.line.number.Goals as goal

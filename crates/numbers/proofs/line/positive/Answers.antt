@@ -1,12 +1,11 @@
 -- `line::positive` meets its contract.
-use mathlib.Core.Path.{◌≡◌, refl, sym, ap, ◌∙◌}
+use mathlib.Core.Path.{sym, ap, ◌∙◌}
 use native.Mathlib.Omega.{arith}
 use mathlib.Core.Option.{some}
 use mir.Syntax.{w64}
 use mir.ValLaws.{to_z_pos}
 use Rattle.numbers.specs.Limits.{greatest}
 use Rattle.numbers.specs.Line.{plus}
-use Rattle.numbers.specs.Answers.{option_of}
 use Rattle.numbers.proofs.Fields.{magnitude_most}
 use Rattle.numbers.proofs.line.positive.Goals as goal
 

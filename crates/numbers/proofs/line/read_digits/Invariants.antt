@@ -1,7 +1,7 @@
 -- `line::read_digits` meets its contract. The loop's invariant: the digits left, after the value so far, have the value of all of them.
 use mathlib.Core.Path.{◌≡◌}
 use Prim.Native.Nat.{◌≤◌}
-use lib.ListN.{length, drop}
+use lib.ListN.{drop}
 use Rattle.numbers.specs.Bytes.{is_digit, every, digits}
 use Rattle.numbers.proofs.line.read_digits.Given as goal
 
