@@ -96,14 +96,14 @@ fn value_of(env: &Env<'_>, vars: &[i64], at: u32, len: u32) -> i64
     requires len_in_bounds { at + len ≤ length env.now.text.now }
     ensures { (vs : List ℤ) → Cells vars.now env.now.vars vs → result ≡ value_in (find (rows_of env.now) (part env.now.text.now at len) main_scope) vs }
 {
-    let symbols::Found::At(row) = symbols::find(env.text, env.table, env.used, at, len) else {
+    let Some(row) = symbols::find(env.text, env.table, env.used, at, len) else {
         return 0;
     };
     let symbol = symbols::read_row(env.table, row);
     match symbol.kind {
-        1 => whole(symbol.low, symbol.high),
-        2 => variable(vars, env.vars, place_of(symbol.address)),
-        _ => 0,
+        symbols::Kind::Constant => whole(symbol.low, symbol.high),
+        symbols::Kind::Variable => variable(vars, env.vars, place_of(symbol.address)),
+        symbols::Kind::Procedure => 0,
     }
 }
 
@@ -203,11 +203,13 @@ pub fn cond(env: &Env<'_>, i: usize, vars: &[i64], clock: &mut Clock) -> Result<
     ensures { (t : Cond) → CondAt env.now.text.now env.now.tree.now i t → (w : State) → Shows vars.now env.now clock.old w → Gives (clock.old.top + 1) clock.old w (walk_cond (rows_of env.now) t clock.old.left w) clock.new result }
 {
     let x = exp(env, i + 4, vars, clock)?;
-    if tree::kind_at(env.tree, i) == Kind::Odd {
-        return settle(Ok(arithmetic::remainder(x)), clock.top, clock);
+    match tree::kind_at(env.tree, i) {
+        Kind::Odd => settle(Ok(arithmetic::remainder(x)), clock.top, clock),
+        _ => {
+            let other = tree::after(env.tree, i + 4);
+            related(env, other, comparison(env.tree[i + 1]), x, vars, clock)
+        }
     }
-    let other = tree::after(env.tree, i + 4);
-    related(env, other, comparison(env.tree[i + 1]), x, vars, clock)
 }
 
 // The second side of a comparison, at i, and the comparison.

@@ -22,7 +22,7 @@ fn place(env: &Env<'_>, at: u32, len: u32) -> usize
     requires len_in_bounds { at + len ≤ length env.now.text.now }
     ensures { result ≡ place_in (find (rows_of env.now) (part env.now.text.now at len) main_scope) }
 {
-    let symbols::Found::At(row) = symbols::find(env.text, env.table, env.used, at, len) else {
+    let Some(row) = symbols::find(env.text, env.table, env.used, at, len) else {
         return 0;
     };
     expressions::place_of(symbols::read_row(env.table, row).address)

@@ -24,8 +24,9 @@ returns-in_err-x c =
     let p = err_from_is_err_and c.from_residual.result c.from_residual.ensures.1 in
     rw (p.1, p.2) (cond_stop _ _ _ _ _ _ c.args.clock.now c.exp.ensures c.in_err-x.was)
 
-pub returns-then-eq : goal.returns-then-eq
-returns-then-eq c = ?
+pub returns-in-Odd : goal.returns-in-Odd
+returns-in-Odd c = cond_odd _ _ _ _ _ _ c.args.clock.now c.exp.ensures c.in_ok-x.was (sym c.in-Odd.ensures) _
+    (ap val (to_z-of_z w64 _ (sfits_of c.remainder.type_inv)) ∙ plain oddness c.in_ok-x.x (search rules) c.remainder.ensures) c.settle.ensures
 
 pub after-other-requires : goal.after-other-requires
 after-other-requires c = (_, (cond_first c.requires.has_cond.cond c.requires.has_cond.at).at.stands)
@@ -34,7 +35,8 @@ pub bounds-env-i : goal.bounds-env-i
 bounds-env-i c = omega (arith, cond_fits c.requires.has_cond.at, c.well_formed)
 
 pub related-requires-clause-has_exp : goal.related-requires-clause-has_exp
-related-requires-clause-has_exp c = ?
+related-requires-clause-has_exp c = has_right (not_kind Odd c.kind_at.ensures c.in_default.not-Odd) c.after-other.ensures c.requires.has_cond
 
-pub returns : goal.returns
-returns c = ?
+pub returns-in_default : goal.returns-in_default
+returns-in_default c = cond_rel _ _ _ _ _ _ c.args.clock.now c.exp.ensures c.in_ok-x.was (not_kind Odd c.kind_at.ensures c.in_default.not-Odd) _ (to_z-of_z w64 c.in_ok-x.x (search rules)) c.after-other.ensures
+    (λ o t e a w sh. rw (c.comparison.ensures o e) at (c.related.ensures t a w sh))
