@@ -1,6 +1,6 @@
 -- Laws of conditions that are tested, and of what comes after the test.
 use mathlib.Core.Path.{◌≡◌, refl, sym, ap, ◌∙◌}
-use mathlib.Core.Bool.{Bool, true, false}
+use mathlib.Core.Bool.{Bool, true, false, not}
 use mathlib.Core.List.{List}
 use Prim.Native.Nat.{ℕ, zero, suc, ◌≤◌, ◌<◌}
 use native.Mathlib.Omega.{arith}
@@ -61,17 +61,22 @@ module _ {e : Env} {input : List ℕ} {lv : List ℤ} {lo : List ℕ} {vars : Li
         of (l, (i, refused s j m t)) = stopped {k = k} s (ap (then (λ z. tested >> pure z)) i ∙ ap (then (λ c. pure z)) j) m (omega (arith, l, t))
 
     module _ {u : Unit {0}} (v : t ≡ Ok u) where
-      pub test_passed : eq_z z (pos 0) ≡ false → Meets (Ok true) g
+      test_passed : eq_z z (pos 0) ≡ false → Meets (Ok true) g
       test_passed t = of (rw v at stepped)
         where
           of : Stepped (Ok u) → Meets (Ok true) g
           of (l, (i, done s j m n)) = let f = step_less (at_top d.top w) d.left (at_top d.top w) g.clock.left s j in passed z s t (ap (then (λ z. tested >> pure z)) i ∙ ap (then (λ c. pure z)) j) m (omega (arith, l, f))
 
-      pub test_failed : eq_z z (pos 0) ≡ true → Meets (Ok false) g
+      test_failed : eq_z z (pos 0) ≡ true → Meets (Ok false) g
       test_failed t = of (rw v at stepped)
         where
           of : Stepped (Ok u) → Meets (Ok false) g
           of (l, (i, done s j m n)) = let f = step_less (at_top d.top w) d.left (at_top d.top w) g.clock.left s j in failed z s t (ap (then (λ z. tested >> pure z)) i ∙ ap (then (λ c. pure z)) j) m (omega (arith, l, f))
+
+      -- either way
+      pub test_says : (b : Bool) → eq_z z (pos 0) ≡ b → Meets (Ok (not b)) g
+      test_says true t = test_failed t
+      test_says false t = test_passed t
 
 -- the state after a test, with its value and whether that is 0
 pub record Led (e : Env) (input : List ℕ) (lv : List ℤ) (lo : List ℕ) (vars : List ℤ) (out : List ℕ) (p : Progress) (o : Result ℤ) (q : Progress) (f : Bool) : Type 0 where

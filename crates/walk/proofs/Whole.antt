@@ -1,11 +1,10 @@
 -- Laws of the walk of a block: where its parts stand, its first state, and its end.
 use mathlib.Core.Path.{◌≡◌, refl, sym, ap, ◌∙◌}
-use mathlib.Core.Bool.{not}
+use mathlib.Core.Bool.{true, false}
 use mathlib.Core.List.{List, [], ◌∷◌, ◌++◌}
 use Prim.Native.Nat.{ℕ, zero, suc, ◌+◌, ◌≤◌, ◌<◌}
 use native.Mathlib.Omega.{arith}
 use lib.IntN.{ℤ, pos}
-use lib.Dec.{eqb}
 use lib.ListN.{length, get_or, take, drop, replicate, length-replicate, take-append-drop}
 use lib.Seq.{take-append-le}
 use Rattle.std.proofs.Common.{Result as Answer, Ok, Err}
@@ -16,7 +15,7 @@ use Rattle.numbers.specs.Stack.{links}
 use Rattle.numbers.specs.Lent.{onto}
 use Rattle.lexer.specs.Tokens.{Name}
 use Rattle.tree.specs.Tree.{Procs, no_procs, proc, Stmt, body, Block}
-use Rattle.tree.specs.Layout.{list_kind, no_procedures_kind, block_kind, no_more, member, node_no, count, enc, Stands}
+use Rattle.tree.specs.Layout.{list_kind, procedure_kind, block_kind, no_more, member, node_no, count, enc, Stands}
 use Rattle.tree.specs.Nodes.{list_nodes, name_node, consts_node, names_node, procs_node, stmt_node, body_node, block_node}
 use Rattle.tree.specs.Named.{Each, NamedStmt}
 use Rattle.tree.specs.Reading.{Two, branch_at, first_at, next_at, After}
@@ -51,12 +50,20 @@ module _ {tr : List ℕ} (b : Block) (st : Stands tr 0 (enc (block_node b))) whe
       pub procs_at : Two tr j (procs_node b.procs) (member (body_node b.main) no_more)
       procs_at = next_at tr i j (names_node b.vars) (procs_node b.procs) (member (body_node b.main) no_more) g names_at
 
-      pub procs_said : not (eqb (get_or tr j 0) (node_no no_procedures_kind)) ≡ any_procs b.procs
-      procs_said = of b.procs (procs_head_lem tr j b.procs procs_at.one).kind
+      -- what the first number there says of procedures
+      pub procs_some : get_or tr j 0 ≡ node_no procedure_kind → true ≡ any_procs b.procs
+      procs_some h = of b.procs (procs_head_lem tr j b.procs procs_at.one).kind
         where
-          of : (t : Procs) → get_or tr j 0 ≡ procs_no t → not (eqb (get_or tr j 0) (node_no no_procedures_kind)) ≡ any_procs t
-          of no_procs k = rw k
-          of (proc n ar cs vs inner m later) k = rw k
+          of : (t : Procs) → get_or tr j 0 ≡ procs_no t → true ≡ any_procs t
+          of no_procs k = absurd (omega (arith, h, k))
+          of (proc n ar cs vs inner m later) k = refl
+
+      pub procs_none : (get_or tr j 0 ≡ node_no procedure_kind → ⊥) → false ≡ any_procs b.procs
+      procs_none h = of b.procs (procs_head_lem tr j b.procs procs_at.one).kind
+        where
+          of : (t : Procs) → get_or tr j 0 ≡ procs_no t → false ≡ any_procs t
+          of no_procs k = refl
+          of (proc n ar cs vs inner m later) k = absurd (h k)
 
       pub main_at : {m : ℕ} → After tr j m → Two tr m (body_node b.main) no_more
       main_at {m} h = next_at tr j m (procs_node b.procs) (body_node b.main) no_more h procs_at
