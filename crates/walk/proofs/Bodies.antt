@@ -5,7 +5,7 @@ use Prim.Native.Nat.{ℕ, ◌+◌}
 use native.Mathlib.Omega.{arith}
 use lib.IntN.{ℤ}
 use lib.ListN.{length, get_or}
-use Rattle.std.proofs.Common.{Result as Answer, Ok, Err}
+use Rattle.std.proofs.Common.{Result as Answer, Ok}
 use Rattle.numbers.specs.declared.refusal.Refusal.{Refusal}
 use Rattle.tree.specs.Tree.{Stmt, assign, if_then, if_else, while, call, body, read_s, write_s, Stmts, last, more}
 use Rattle.tree.specs.Layout.{assign_kind, if_kind, while_kind, body_kind, read_kind, write_kind, member, node_no, count}

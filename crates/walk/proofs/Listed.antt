@@ -5,7 +5,7 @@ use Prim.Native.Nat.{ℕ, ◌+◌, ◌≤◌}
 use native.Mathlib.Omega.{arith}
 use lib.IntN.{ℤ}
 use lib.ListN.{length, get_or, drop, length-append}
-use Rattle.std.proofs.Common.{Result as Answer, Ok, Err}
+use Rattle.std.proofs.Common.{Result as Answer, Ok}
 use Rattle.numbers.specs.declared.refusal.Refusal.{Refusal}
 use Rattle.numbers.specs.Screen.{newline}
 use Rattle.lexer.specs.Tokens.{Name}

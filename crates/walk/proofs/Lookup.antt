@@ -13,7 +13,7 @@ use Rattle.symbols.specs.declared.Kind.{Kind as CodeKind}
 use Rattle.symbols.specs.declared.Kind.TheVariants.{Constant, Variable, Procedure}
 use Rattle.symbols.specs.declared.Symbol.{Symbol}
 use Rattle.symbols.specs.Symbols.{Kind, main_scope, Row, find}
-use Rattle.symbols.specs.Table.{field, kind, scope_at, kind_of, kind_for, value_of, row_at, rows_in, symbol_at, Sound, Hit, Finds}
+use Rattle.symbols.specs.Table.{field, kind, scope_at, kind_for, value_of, row_at, rows_in, symbol_at, Sound, Hit, Finds}
 use Rattle.symbols.specs.Chains.{scope_main}
 use Rattle.symbols.specs.ByNumbers.{coded_for}
 use Rattle.walk.specs.Walk.{value_by, value_in, place_in}

@@ -9,7 +9,6 @@ use lib.ListN.{length, get_or, take, drop, replicate, length-replicate, take-app
 use lib.Seq.{take-append-le}
 use Rattle.std.proofs.Common.{Result as Answer, Ok, Err}
 use Rattle.numbers.specs.declared.refusal.Refusal.{Refusal}
-use Rattle.numbers.specs.Refusals.{number_of}
 use Rattle.numbers.specs.Limits.{max_variables}
 use Rattle.numbers.specs.Stack.{links}
 use Rattle.numbers.specs.Lent.{onto}
@@ -26,7 +25,7 @@ use Rattle.symbols.specs.Table.{rows_in}
 use Rattle.symbols.specs.Kept.{rows_length}
 use Rattle.walk.specs.declared.expressions.Env.{Env}
 use Rattle.walk.specs.declared.progress.Progress.{Progress}
-use Rattle.walk.specs.Walk.{State, Result, then, ◌>>◌, tick, opened, at_top, walk_stmt, walk_stmts, walk_main, walked, begin, declared_rows, walk_block}
+use Rattle.walk.specs.Walk.{State, Result, ◌>>◌, tick, opened, at_top, walk_stmt, walk_stmts, walk_main, walked, begin, declared_rows, walk_block}
 use Rattle.walk.specs.Meets.{Rows, rows_of}
 use Rattle.walk.specs.Holds.{Holds, HasState, Ends, done, refused, Steps}
 use Rattle.walk.specs.Tests.{part_walk}

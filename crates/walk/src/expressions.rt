@@ -162,13 +162,7 @@ fn negated(env: &Env<'_>, i: usize, vars: &[i64], clock: &mut Clock) -> Result<i
 
 // The operand at j, and its operator on it and what came before.
 #[cycle(chain_exp_linked_negated)]
-fn linked(
-    env: &Env<'_>,
-    j: usize,
-    x: i64,
-    vars: &[i64],
-    clock: &mut Clock,
-) -> Result<i64, Refusal>
+fn linked(env: &Env<'_>, j: usize, x: i64, vars: &[i64], clock: &mut Clock) -> Result<i64, Refusal>
     requires known { Known env.now vars.now }
     requires has_exp { HasExp env.now.text.now env.now.tree.now j }
     ensures { (o : Operator) (t : Exp) → get_or env.now.tree.now (j + 1) 0 ≡ arith_no o → ExpAt env.now.text.now env.now.tree.now j t → (w : State) → Shows vars.now env.now clock.old w → Gives clock.old.top clock.old w (link_walk (rows_of env.now) o x t clock.old.left w) clock.new result }

@@ -18,12 +18,7 @@ use numbers::refusal::Refusal;
 use tree::Kind;
 
 // Whether the condition at i holds, and one step for its test.
-fn test(
-    env: &Env<'_>,
-    i: usize,
-    progress: &mut Progress,
-    vars: &[i64],
-) -> Result<bool, Refusal>
+fn test(env: &Env<'_>, i: usize, progress: &mut Progress, vars: &[i64]) -> Result<bool, Refusal>
     requires known { Known env.now vars.now }
     requires has_cond { HasCond env.now.text.now env.now.tree.now i }
     ensures { (t : Cond) → CondAt env.now.text.now env.now.tree.now i t → (input : List ℕ) (lv : List ℤ) (lo out : List ℕ) (w : State) → Holds env.now input lv lo vars.now out progress.old w → Tests env.now input lv lo vars.now out progress.old (test_walk (rows_of env.now) t progress.old.clock.left w) progress.new result }

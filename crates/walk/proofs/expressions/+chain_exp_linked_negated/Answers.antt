@@ -1,17 +1,16 @@
 -- The proof of the cycle of calls of expressions.
 use borrow.Author.Rules.{rules, sfits_of}
 use native.Mathlib.Omega.{arith as linear}
-use mathlib.Core.Path.{refl, sym, ap, ◌∙◌}
-use lib.IntN.{ℤ}
+use mathlib.Core.Path.{refl, sym}
 use mir.Syntax.{w64}
 use mir.ValLaws.{to_z-of_z}
 use Rattle.std.proofs.lemmas.Result.{err_from_is_err_and}
-use Rattle.numbers.specs.Arithmetic.{Arith, arith, negated}
+use Rattle.numbers.specs.Arithmetic.{arith, negated}
 use Rattle.tree.specs.Parts.{exp_fits, ref_in, literal_in, has_neg, is_brackets_lem, has_brackets, the_chain, has_first}
 use Rattle.tree.specs.Kinds.{not_kind}
 use Rattle.tree.specs.declared.Kind.TheVariants.{Name, Number, Neg, Chain}
 use Rattle.numbers.proofs.Bits.{plain, plain_2}
-use Rattle.walk.specs.Walk.{on_one, on_two}
+use Rattle.walk.specs.Walk.{on_two}
 use Rattle.walk.proofs.Cells.{some_state}
 use Rattle.walk.proofs.Exps.{gives_stop, went, exp_ref, exp_lit, exp_neg, exp_brackets, on_one_lem, on_two_lem, chain_stop, chain_start, chain_whole, chain_done, next_in, chain_halt, chain_more}
 use Rattle.walk.proofs.expressions.+chain_exp_linked_negated.Goals as goal

@@ -7,7 +7,7 @@ use mir.ValLaws.{to_z-of_z}
 use Rattle.std.proofs.lemmas.Result.{err_from_is_err_and}
 use Rattle.numbers.specs.Arithmetic.{val, oddness}
 use Rattle.tree.specs.Parts.{cond_fits, cond_first, has_right}
-use Rattle.tree.specs.Kinds.{no_of, not_kind}
+use Rattle.tree.specs.Kinds.{not_kind}
 use Rattle.tree.specs.declared.Kind.TheVariants.{Odd}
 use Rattle.numbers.proofs.Bits.{plain}
 use Rattle.walk.proofs.Exps.{cond_stop, cond_odd, cond_rel}

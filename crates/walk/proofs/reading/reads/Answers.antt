@@ -40,8 +40,11 @@ after-j-requires c =
     (_, n.1.0)
 
 pub loop-preserved : goal.loop-preserved
-loop-preserved c = (c.read_one.auto.vars ∙ c.loop.invariant.0, c.read_one.auto.out ∙ c.loop.invariant.1,
-    λ ns a. along_more (ReadsF _ _) _ _ _ _ _ _ _ _ _ _ _ _ _ _ (c.loop.invariant.2 ns a) c.loop-test.true _ _ (λ m st nm. c.read_one.ensures m (record { stands = st; named = nm })) c.in_ok-read_one.was c.after-j.ensures)
+loop-preserved c = (
+  c.read_one.auto.vars ∙ c.loop.invariant.0,
+  c.read_one.auto.out ∙ c.loop.invariant.1,
+  λ ns a. along_more (ReadsF _ _) _ _ _ _ _ _ _ _ _ _ _ _ _ _ (c.loop.invariant.2 ns a) c.loop-test.true _ _ (λ m st nm. c.read_one.ensures m (record { stands = st; named = nm })) c.in_ok-read_one.was c.after-j.ensures,
+)
 
 pub returns : goal.returns
 returns c = reads_whole _ _ _ _ c.args.env.now _ _ _ c.args.progress.now c.requires.has_kind

@@ -1,6 +1,6 @@
 -- The proof of the cycle of calls of statements.
 use native.Mathlib.Omega.{arith}
-use mathlib.Core.Path.{refl, sym, ap, ◌∙◌}
+use mathlib.Core.Path.{refl, ap, ◌∙◌}
 use Rattle.std.proofs.Common.{Ok}
 use Rattle.std.proofs.lemmas.Result.{err_from_is_err_and}
 use Rattle.tree.specs.Parts.{stmt_fits, if_other}
@@ -39,8 +39,11 @@ body-after-j-requires t c =
     (_, n.1.0)
 
 pub body-loop-preserved : goal.body-loop-preserved
-body-loop-preserved t c = (c.statement.auto.vars ∙ c.loop.invariant.0, c.statement.auto.out ∙ c.loop.invariant.1,
-    λ l a. along_more (BodyF _ _) _ _ _ _ _ _ _ _ _ _ _ _ _ _ (c.loop.invariant.2 l a) c.loop-test.true _ _ (λ m st nm. c.statement.ensures m (record { stands = st; named = nm })) c.in_ok-statement.was c.after-j.ensures)
+body-loop-preserved t c = (
+  c.statement.auto.vars ∙ c.loop.invariant.0,
+  c.statement.auto.out ∙ c.loop.invariant.1,
+  λ l a. along_more (BodyF _ _) _ _ _ _ _ _ _ _ _ _ _ _ _ _ (c.loop.invariant.2 l a) c.loop-test.true _ _ (λ m st nm. c.statement.ensures m (record { stands = st; named = nm })) c.in_ok-statement.was c.after-j.ensures,
+)
 
 pub body-returns : goal.body-returns
 body-returns t c = body_whole _ _ _ _ c.args.env.now _ _ _ c.args.progress.now c.requires.has_kind
@@ -113,8 +116,11 @@ pub looped-loop-progress-smaller : goal.looped-loop-progress-smaller
 looped-loop-progress-smaller t c = laps_less _ _ _ _ c.args.env.now _ _ _ c.args.progress.now _ _ _ c.loop-progress.invariant.2 c.test.ensures (c.in_ok-test.was ∙ ap Ok c.if-branch.true) c.after-inner.ensures _ _ c.part.ensures c.requires.has_kind c.requires.has_stmt c.requires.has_state c.in_ok-part.was
 
 pub looped-loop-progress-preserved : goal.looped-loop-progress-preserved
-looped-loop-progress-preserved t c = (c.part.auto.vars ∙ c.loop-progress.invariant.0, c.part.auto.out ∙ c.loop-progress.invariant.1,
-    laps_more _ _ _ _ c.args.env.now _ _ _ c.args.progress.now _ _ _ c.loop-progress.invariant.2 c.test.ensures (c.in_ok-test.was ∙ ap Ok c.if-branch.true) c.after-inner.ensures _ _ c.part.ensures c.in_ok-part.was)
+looped-loop-progress-preserved t c = (
+  c.part.auto.vars ∙ c.loop-progress.invariant.0,
+  c.part.auto.out ∙ c.loop-progress.invariant.1,
+  laps_more _ _ _ _ c.args.env.now _ _ _ c.args.progress.now _ _ _ c.loop-progress.invariant.2 c.test.ensures (c.in_ok-test.was ∙ ap Ok c.if-branch.true) c.after-inner.ensures _ _ c.part.ensures c.in_ok-part.was,
+)
 
 pub looped-returns : goal.looped-returns
 looped-returns t c = laps_done _ _ _ _ c.args.env.now _ _ _ c.args.progress.now _ _ _ c.loop-progress.invariant.2 c.test.ensures c.requires.has_kind (c.in_ok-test.was ∙ ap Ok c.if-branch.false)

@@ -36,8 +36,10 @@ after-j-requires c =
     (_, n.1.0)
 
 pub loop-preserved : goal.loop-preserved
-loop-preserved c = (c.write_one.auto.out ∙ c.loop.invariant.0,
-    λ es a input. along_more (WritesF _ _) _ _ _ _ _ _ _ _ _ _ _ _ _ _ (c.loop.invariant.1 es a input) c.loop-test.true _ _ (λ m st nm. c.write_one.ensures m (record { op = 0; stands = st; named = nm }) input) c.in_ok-write_one.was c.after-j.ensures)
+loop-preserved c = (
+  c.write_one.auto.out ∙ c.loop.invariant.0,
+  λ es a input. along_more (WritesF _ _) _ _ _ _ _ _ _ _ _ _ _ _ _ _ (c.loop.invariant.1 es a input) c.loop-test.true _ _ (λ m st nm. c.write_one.ensures m (record { op = 0; stands = st; named = nm }) input) c.in_ok-write_one.was c.after-j.ensures,
+)
 
 pub returns : goal.returns
 returns c = writes_whole _ _ _ _ c.args.env.now _ _ c.args.progress.now c.requires.has_kind
