@@ -11,13 +11,14 @@ use lib.ListN.{length, take, set, get_or, length-set, get_or-append}
 use lib.Seq.{take-suc-set, length-take-le, get_or-take, get_or-append-add, get_or_at, get_or-set_same, get_or-set_other, ext_get_or}
 use borrow.Author.Tests.{lt-ltb, le-ltb, eqb-true, eqb-false}
 use Rattle.numbers.specs.Limits.{max_rows, row_share}
-use Rattle.numbers.specs.Panel.{name_taken, too_many_rows}
-use Rattle.symbols.specs.declared.Added.{Added}
-use Rattle.symbols.specs.declared.Added.TheVariants.{Used, Refused}
+use Rattle.std.specs.Prelude.{Result, Ok, Err}
+use Rattle.numbers.specs.declared.refusal.Refusal.{Refusal}
+use Rattle.numbers.specs.declared.refusal.Refusal.TheVariants.{NameTaken, TooManyRows}
 use Rattle.symbols.specs.declared.Symbol.{Symbol}
 use Rattle.symbols.specs.Symbols.{procedure, Row, no_row, declared, one_more, fresh}
-use Rattle.symbols.specs.Table.{part, field, offset, extent, hash, first, scope, kind, name_at, scope_at, kind_of, row_at, rows_in, hash_of, value_of, row_of, Named, Linked, Sound, Kept, Declares, Adds, Became, with_value}
-use Rattle.symbols.specs.Steps.{Asked, FirstOf, new, known, numbers_of}
+use Rattle.symbols.specs.Table.{part, field, offset, extent, hash, first, scope, kind, name_at, scope_at, kind_of, kind_for, row_at, rows_in, hash_of, value_of, row_of, Named, Linked, Sound, Kept, Declares, Adds, Became, with_value}
+use Rattle.symbols.specs.Steps.{FirstOf, new, known, numbers_of}
+use Rattle.symbols.specs.ByNumbers.{kind_numbered}
 use Rattle.symbols.specs.Chains.{positive, chain_cons, chain_kept, chain_fuel, name_kept, scope_kept}
 use Rattle.symbols.specs.Kept.{rows_length, sound_kept, rows_kept}
 use Rattle.symbols.proofs.Spelling.{eq_same, same_eq}
@@ -69,7 +70,7 @@ record First (s xs ys : List ℕ) (u : ℕ) (w : List ℕ) (f : ℕ) : Type 0 wh
   again : first ys f ≡ f
   one : (i : ℕ) → i < u → name_at s xs i ≡ w → first xs i ≡ f
 
-module _ (s xs ys : List ℕ) (u : ℕ) (y : Symbol) (h f : ℕ) (d : Declares s xs u y) (ul : u < max_rows) (q : Asked s y.at y.len h)
+module _ (s xs ys : List ℕ) (u : ℕ) (y : Symbol) (h f : ℕ) (d : Declares s xs u y) (ul : u < max_rows) (q : h ≡ hash_of (part s y.at y.len))
     (long : length ys ≡ length xs) (e : take (12 * u + 12) ys ≡ take (12 * u) xs ++ numbers_of y h f) where
   room : 12 * u + 12 ≤ length xs
   room = omega (arith, d.sound.linked.room)
@@ -98,7 +99,7 @@ module _ (s xs ys : List ℕ) (u : ℕ) (y : Symbol) (h f : ℕ) (d : Declares s
 
   row_new : row_at s ys u ≡ row_of s xs y
   unfolding row_at row_of
-  row_new = rw (name_new, number 5 (omega arith), number 9 (omega arith), number 10 (omega arith), number 6 (omega arith), number 7 (omega arith), number 8 (omega arith), number 4 (omega arith), scope_kept 12 u s xs ys (omega arith) d.sound.linked kept y.scope d.scoped.known)
+  row_new = rw (name_new, number 5 (omega arith), kind_numbered y.kind, number 9 (omega arith), number 10 (omega arith), number 6 (omega arith), number 7 (omega arith), number 8 (omega arith), number 4 (omega arith), scope_kept 12 u s xs ys (omega arith) d.sound.linked kept y.scope d.scoped.known)
 
   rows_new : rows_in s ys (u + 1) ≡ rows_in s xs u ++ (row_of s xs y ∷ [])
   unfolding rows_in
@@ -127,7 +128,7 @@ module _ (s xs ys : List ℕ) (u : ℕ) (y : Symbol) (h f : ℕ) (d : Declares s
         one = λ j m v. d.sound.one j i m l (v ∙ sym t') ∙ sym r;
       }
 
-  module _ (ff : FirstOf s xs u (part s y.at y.len) f) (un : kind_of y.kind ≡ procedure → declared (rows_in s xs u) (part s y.at y.len) (scope_at s xs y.scope) ≡ false) where
+  module _ (ff : FirstOf s xs u (part s y.at y.len) f) (un : kind_for y.kind ≡ procedure → declared (rows_in s xs u) (part s y.at y.len) (scope_at s xs y.scope) ≡ false) where
     linked_new : Linked ys (u + 1)
     linked_new =
         let k = first_is ff in
@@ -143,7 +144,7 @@ module _ (s xs ys : List ℕ) (u : ℕ) (y : Symbol) (h f : ℕ) (d : Declares s
 
     not_beside : (i : ℕ) → i < u → kind_of (kind ys u) ≡ procedure → scope ys i ≡ scope ys u → name_at s ys i ≡ name_at s ys u → ⊥
     not_beside i l k t r =
-        let a = un (ap kind_of (sym (number 5 (omega arith))) ∙ k) in
+        let a = un (sym (kind_numbered y.kind) ∙ ap kind_of (sym (number 5 (omega arith))) ∙ k) in
         let b = declared_has s xs (part s y.at y.len) y.scope i u l (sym (name_old i l) ∙ r ∙ name_new) (sym (kept.at i 4 l (omega arith)) ∙ t ∙ number 4 (omega arith)) in
         let z : ◌≡◌ {A = Bool} true false = sym b ∙ a in
         let n : ◌≡◌ {A = ℕ} 0 1 = cc in omega arith
@@ -158,7 +159,7 @@ module _ (s xs ys : List ℕ) (u : ℕ) (y : Symbol) (h f : ℕ) (d : Declares s
               (rw (number 0 (omega arith), number 1 (omega arith)) d.named);
           hashed = below_more (λ i. hash ys i ≡ hash_of (name_at s ys i)) u
               (λ i l. kept.at i 2 l (omega arith) ∙ d.sound.hashed i l ∙ rw (name_old i l))
-              (number 2 (omega arith) ∙ q.is ∙ rw name_new);
+              (number 2 (omega arith) ∙ q ∙ rw name_new);
           same = below_more (λ i. name_at s ys (first ys i) ≡ name_at s ys i) u
               (λ i l. let b = d.sound.linked.before i l in rw (kept.at i 3 l (omega arith)) (name_old (first xs i) (omega (arith, b)) ∙ d.sound.same i l ∙ sym (name_old i l)))
               (rw (number 3 (omega arith)) k.same);
@@ -197,7 +198,7 @@ module _ (s xs ys : List ℕ) (u : ℕ) (y : Symbol) (h f : ℕ) (d : Declares s
               i l;
         }
 
-    pub add_made : Adds (one_more (rows_in s xs u) (row_of s xs y)) s xs u y ys (Used (u + 1))
+    pub add_made : Adds (one_more (rows_in s xs u) (row_of s xs y)) s xs u y ys (Ok (u + 1))
     unfolding Adds one_more
     add_made = record {
       one = refl;
@@ -208,12 +209,12 @@ module _ (s xs ys : List ℕ) (u : ℕ) (y : Symbol) (h f : ℕ) (d : Declares s
       new_scope = scope_new;
     }
 
-pub add_full : (s xs ys : List ℕ) (u : ℕ) (y : Symbol) (r : Row) → max_rows ≤ u → Adds (one_more (rows_in s xs u) r) s xs u y ys (Refused too_many_rows)
+pub add_full : (s xs ys : List ℕ) (u : ℕ) (y : Symbol) (r : Row) → max_rows ≤ u → Adds (one_more (rows_in s xs u) r) s xs u y ys (Err TooManyRows)
 unfolding Adds one_more
 add_full s xs ys u y r h = rw (le-ltb (length (rows_in s xs u)) max_rows (omega (arith, rows_length s xs u)), one_more)
 
 module _ (s xs ys : List ℕ) (u : ℕ) (y : Symbol) (b : Bool) (eb : b ≡ declared (rows_in s xs u) (part s y.at y.len) (scope_at s xs y.scope)) where
-  pub fresh_not : b ≡ true → Adds (fresh (rows_in s xs u) (row_of s xs y)) s xs u y ys (Refused name_taken)
+  pub fresh_not : b ≡ true → Adds (fresh (rows_in s xs u) (row_of s xs y)) s xs u y ys (Err NameTaken)
   unfolding Adds fresh row_of
   fresh_not t = let q : declared (rows_in s xs u) (part s y.at y.len) (scope_at s xs y.scope) ≡ true = sym eb ∙ t in rw (q, fresh)
 
@@ -221,7 +222,7 @@ module _ (s xs ys : List ℕ) (u : ℕ) (y : Symbol) (b : Bool) (eb : b ≡ decl
   unfolding fresh row_of
   fresh_is t = let q : declared (rows_in s xs u) (part s y.at y.len) (scope_at s xs y.scope) ≡ false = sym eb ∙ t in rw (q, fresh)
 
-  pub fresh_on : (r : Added) → b ≡ false → Adds (one_more (rows_in s xs u) (row_of s xs y)) s xs u y ys r → Adds (fresh (rows_in s xs u) (row_of s xs y)) s xs u y ys r
+  pub fresh_on : (r : Result ℕ Refusal) → b ≡ false → Adds (one_more (rows_in s xs u) (row_of s xs y)) s xs u y ys r → Adds (fresh (rows_in s xs u) (row_of s xs y)) s xs u y ys r
   fresh_on r t h = rw (fresh_is t) h
 
 -- an entry that is set

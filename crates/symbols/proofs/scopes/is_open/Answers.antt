@@ -1,4 +1,5 @@
 -- The proof of `is_open`.
+use Rattle.std.proofs.Common.{refl}
 use Rattle.symbols.proofs.Seeing.{open_zero, open_is}
 use Rattle.symbols.proofs.scopes.is_open.Goals as goal
 
@@ -6,4 +7,4 @@ pub returns-then-scope-eq0 : goal.returns-then-scope-eq0
 returns-then-scope-eq0 c = open_zero _ _ c.if-scope-eq0.true
 
 pub returns : goal.returns
-returns c = open_is _ _ _ c.wide.ensures c.if-scope-eq0.false
+returns c = open_is _ _ _ refl c.if-scope-eq0.false
