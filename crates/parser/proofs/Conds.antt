@@ -1,4 +1,5 @@
 -- Conditions.
+use Rattle.std.specs.Prelude.{Ok, Err}
 use mathlib.Core.Path.{◌≡◌, refl, sym, ap, subst, ◌∙◌}
 use mathlib.Core.List.{List}
 use mathlib.Core.Option.{Option, none, some}
@@ -6,11 +7,13 @@ use Prim.Native.Nat.{ℕ, suc, ◌+◌, ◌*◌, ◌≤◌}
 use native.Mathlib.Omega.{arith}
 use Rattle.numbers.specs.Panel.{token_missing}
 use Rattle.numbers.specs.Arithmetic.{Compare, equal, unequal, less, at_least, greater, at_most}
+use Rattle.numbers.specs.declared.refusal.Refusal.{Refusal}
+use Rattle.numbers.specs.Refusals.{number_of}
 use Rattle.lexer.specs.Marks.{if_word, then_word, else_word, while_word, do_word, const_word, var_word, procedure_word, program_word, begin_word, end_word, call_word, read_word, write_word, odd_word, plus_sign, minus_sign, times_sign, divide_sign, equal_sign, less_sign, greater_sign, at_most_sign, at_least_sign, unequal_sign, becomes_sign, open_sign, close_sign, semicolon_sign, comma_sign, place_of, same, listed}
 use Rattle.lexer.specs.Tokens.{Token as Word, mark, name, number, token}
 use Rattle.lexer.specs.Cursor.{Cursor as Place, Ans, got, look, take}
 use Rattle.lexer.specs.Meaning.{sees, meaning}
-use Rattle.lexer.specs.Kinds.{kind_of}
+use Rattle.lexer.specs.Spelling.{token_of}
 use Rattle.lexer.specs.Stands.{Stands, taken, past, left}
 use Rattle.lexer.specs.declared.token.Token.{Token}
 use Rattle.lexer.specs.declared.token.Token.TheVariants.{Eq, Ne, Lt, Ge, Gt, Le}
@@ -19,15 +22,12 @@ use Rattle.tree.specs.Tree.{Exp, Cond, is_odd, rel}
 use Rattle.tree.specs.Layout.{member, branch, node_no, odd_kind, comparison_kind, count}
 use Rattle.tree.specs.Nodes.{compare_no, exp_node, cond_node}
 use Rattle.tree.specs.Writing.{join}
-use Rattle.parser.specs.declared.see.Seen.{Seen}
-use Rattle.parser.specs.declared.see.Seen.TheVariants.{At, Refused as Stop}
-use Rattle.parser.specs.declared.answer.Answer.{Answer}
-use Rattle.parser.specs.declared.answer.Answer.TheVariants.{Node}
+use Rattle.parser.specs.Answer.{Answer, Node}
 use Rattle.grammar.specs.Reader.{then}
 use Rattle.grammar.specs.Grammar.{exp, cond, comparisons, comparison_of, compare_with}
 use Rattle.parser.specs.Parts.{only, operand, condition, comparing, Compares, odds, compared}
 use Rattle.parser.specs.Written.{Wrote, Seals}
-use Rattle.parser.specs.See.{Sees, why_of}
+use Rattle.parser.specs.See.{Seen, Sees}
 use Rattle.parser.specs.Meets.{Safe, Means, Reads}
 use Rattle.parser.proofs.Tokens.{kind_in, known, no_plain}
 use Rattle.parser.proofs.Seeing.{saw, no_look, next_is, next_is_not}
@@ -123,11 +123,11 @@ module _ (src : List ℕ) (o : ℕ) where
 
   -- it is there
   module _ (u : ℕ) {xs ys : List ℕ} {i : ℕ} {c d : Cursor} {r : Answer} (h : Reads (operand 0) src xs (u + 4) ys (λ n. exp src n o) (8 * left c + 3) 0 0 c r) (q : r ≡ Node i d) {v : Seen} (y : Sees src d v) where
-    pub compared_stop : {n w : ℕ} → v ≡ Stop n → w ≡ why_of v → Refuses src (λ n. compared src n o) (8 * left c + 3) c w
+    pub compared_stop : {n : Refusal} → v ≡ Err n → Refuses src (λ n. compared src n o) (8 * left c + 3) c (number_of n)
     unfolding compared
-    compared_stop e z n l k s = let b = made h q n l k s in ap (then _) b.is ∙ ap (then _) (no_look y e z b.at b.stands)
+    compared_stop e n l k s = let b = made h q n l k s in ap (then _) b.is ∙ ap (then _) (no_look y e b.at b.stands)
 
-    module _ {t : Cursor} (at : v ≡ At t) {no : ℕ} (number : Compares t.token no) where
+    module _ {t : Cursor} (at : v ≡ Ok t) {no : ℕ} (number : Compares t.token no) where
       pub compared_none : no ≡ 0 → Refuses src (λ n. compared src n o) (8 * left c + 3) c token_missing
       unfolding compared comparing compare_with
       compared_none z n l k s =
@@ -188,19 +188,19 @@ module _ (src : List ℕ) (o : ℕ) where
             }
 
   -- a condition by its first token
-  pub cond_refused : {c : Cursor} {v : Seen} {n w : ℕ} → Sees src c v → v ≡ Stop n → w ≡ why_of v → Refuses src (λ n. cond src n o) (8 * left c + 3) c w
+  pub cond_refused : {c : Cursor} {v : Seen} {n : Refusal} → Sees src c v → v ≡ Err n → Refuses src (λ n. cond src n o) (8 * left c + 3) c (number_of n)
   unfolding cond
-  cond_refused h e q n l k s = next_refused src odd_word _ _ k (no_look h e q k s)
+  cond_refused h e n l k s = next_refused src odd_word _ _ k (no_look h e k s)
 
-  module _ {c d : Cursor} {v : Seen} (h : Sees src c v) (at : v ≡ At d) where
-    pub cond_odd : {t : Cursor} → t ≡ taken d → kind_of d.token ≡ place_of odd_word → (n : ℕ) → 8 * left c + 3 ≤ n → (k : Place) → Stands src c k → Moved src (λ n. odds src n o) (8 * left t + 3) t (cond src n o k)
+  module _ {c d : Cursor} {v : Seen} (h : Sees src c v) (at : v ≡ Ok d) where
+    pub cond_odd : {t : Cursor} → t ≡ taken d → d.token ≡ token_of odd_word → (n : ℕ) → 8 * left c + 3 ≤ n → (k : Place) → Stands src c k → Moved src (λ n. odds src n o) (8 * left t + 3) t (cond src n o k)
     unfolding cond odds
     cond_odd {t} e i n l k s =
         let p = (saw h at k s).1 in
         let f : suc (left t) ≡ left c = rw e p.fewer in
         record { fuel = n; enough = omega arith; at = past src k; stands = rw e p.beyond; is = next_is p odd_word _ _ i }
 
-    pub cond_compared : (kind_of d.token ≡ place_of odd_word → ⊥) → (n : ℕ) → 8 * left c + 3 ≤ n → (k : Place) → Stands src c k → Moved src (λ n. compared src n o) (8 * left d + 3) d (cond src n o k)
+    pub cond_compared : (d.token ≡ token_of odd_word → ⊥) → (n : ℕ) → 8 * left c + 3 ≤ n → (k : Place) → Stands src c k → Moved src (λ n. compared src n o) (8 * left d + 3) d (cond src n o k)
     unfolding cond compared
     cond_compared i n l k s =
         let p = (saw h at k s).1 in

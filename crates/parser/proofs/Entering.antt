@@ -17,8 +17,7 @@ use Rattle.lexer.specs.Stands.{start, start_stands, left}
 use Rattle.tree.specs.Tree.{Block}
 use Rattle.tree.specs.Layout.{size, sizes, enc, encs}
 use Rattle.tree.specs.Nodes.{block_node}
-use Rattle.parser.specs.declared.answer.Answer.{Answer}
-use Rattle.parser.specs.declared.answer.Answer.TheVariants.{Node, Nothing, Refused as Stopped}
+use Rattle.parser.specs.Answer.{Answer, Node, Nothing, Refused as Stopped}
 use Rattle.parser.specs.declared.Parsed.{Parsed}
 use Rattle.parser.specs.declared.Parsed.TheVariants.{Tree, Refused}
 use Rattle.grammar.specs.Grammar.{tree, refused, parsed, parse, program, fuel}

@@ -15,6 +15,7 @@ use Rattle.lexer.specs.Tokens.{Token as Word, mark, name, number, token, bad, to
 use Rattle.lexer.specs.Cursor.{Cursor as Place, refuse}
 use Rattle.lexer.specs.Meaning.{Sight, sees, too_many, meaning}
 use Rattle.lexer.specs.Kinds.{kind_of}
+use Rattle.lexer.specs.Spelling.{token_of}
 use Rattle.lexer.specs.Stands.{told}
 use Rattle.lexer.specs.declared.token.Token.{Token}
 use Rattle.lexer.specs.declared.token.Token.TheVariants.{If, Then, Else, While, Do, Const, Var, Procedure, Program, Begin, End, Call, Read, Write, Odd, Add, Sub, Mul, Div, Eq, Lt, Gt, Le, Ge, Ne, EqSign, ParL, ParR, Semicolon, Comma, Identifier, Integer, LexicalError, TooBig, TooMany, EndOfText}
@@ -160,6 +161,82 @@ sorted LexicalError = inl refl
 sorted TooBig = inl refl
 sorted TooMany = inl refl
 sorted EndOfText = inl refl
+
+-- the token of a mark has its place, and no other token has
+pub kind_of_token : (m : Mark) → kind_of (token_of m) ≡ place_of m
+unfolding place_of
+kind_of_token if_word = refl
+kind_of_token then_word = refl
+kind_of_token else_word = refl
+kind_of_token while_word = refl
+kind_of_token do_word = refl
+kind_of_token const_word = refl
+kind_of_token var_word = refl
+kind_of_token procedure_word = refl
+kind_of_token program_word = refl
+kind_of_token begin_word = refl
+kind_of_token end_word = refl
+kind_of_token call_word = refl
+kind_of_token read_word = refl
+kind_of_token write_word = refl
+kind_of_token odd_word = refl
+kind_of_token plus_sign = refl
+kind_of_token minus_sign = refl
+kind_of_token times_sign = refl
+kind_of_token divide_sign = refl
+kind_of_token equal_sign = refl
+kind_of_token less_sign = refl
+kind_of_token greater_sign = refl
+kind_of_token at_most_sign = refl
+kind_of_token at_least_sign = refl
+kind_of_token unequal_sign = refl
+kind_of_token becomes_sign = refl
+kind_of_token open_sign = refl
+kind_of_token close_sign = refl
+kind_of_token semicolon_sign = refl
+kind_of_token comma_sign = refl
+
+plain_token : (m : Mark) → plain (place_of m) ≡ token_of m
+unfolding place_of
+plain_token if_word = refl
+plain_token then_word = refl
+plain_token else_word = refl
+plain_token while_word = refl
+plain_token do_word = refl
+plain_token const_word = refl
+plain_token var_word = refl
+plain_token procedure_word = refl
+plain_token program_word = refl
+plain_token begin_word = refl
+plain_token end_word = refl
+plain_token call_word = refl
+plain_token read_word = refl
+plain_token write_word = refl
+plain_token odd_word = refl
+plain_token plus_sign = refl
+plain_token minus_sign = refl
+plain_token times_sign = refl
+plain_token divide_sign = refl
+plain_token equal_sign = refl
+plain_token less_sign = refl
+plain_token greater_sign = refl
+plain_token at_most_sign = refl
+plain_token at_least_sign = refl
+plain_token unequal_sign = refl
+plain_token becomes_sign = refl
+plain_token open_sign = refl
+plain_token close_sign = refl
+plain_token semicolon_sign = refl
+plain_token comma_sign = refl
+
+pub of_kind : (t : Token) (m : Mark) → kind_of t ≡ place_of m → t ≡ token_of m
+of_kind t m e =
+    let f : place_of m < 30 = ltb-true (place_of m) 30 (mark_first m) in
+    elim (sorted t) [
+      | inl p ↦ ?
+      | inr (inl p) ↦ absurd (omega (arith, f, e, ap kind_of p.1.1))
+      | inr (inr p) ↦ absurd (omega (arith, f, e, ap kind_of p.1))
+    ]
 
 -- a token that is none of a variant's has not its number
 pub no_identifier : (t : Token) → ((a n : ℕ) → t ≡ Identifier a n → ⊥) → tag t ≡ 30 → ⊥

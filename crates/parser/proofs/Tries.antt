@@ -8,8 +8,7 @@ use Rattle.lexer.specs.Cursor.{Cursor as Place, Reader}
 use Rattle.lexer.specs.Stands.{Stands, left}
 use Rattle.lexer.specs.declared.cursor.Cursor.{Cursor}
 use Rattle.tree.specs.Layout.{Nodes}
-use Rattle.parser.specs.declared.answer.Answer.{Answer}
-use Rattle.parser.specs.declared.answer.Answer.TheVariants.{Node, Nothing, Refused}
+use Rattle.parser.specs.Answer.{Answer, Node, Nothing, Refused}
 use Rattle.parser.specs.Meets.{Room, Safe, Quiet, Means, Meets}
 use Rattle.parser.proofs.Answers.{NoNode, Refuses, refused}
 

@@ -11,7 +11,7 @@ use Rattle.tree.specs.Nodes.{name_node, names_node, consts_node, procs_node}
 use Rattle.grammar.specs.Reader.{pure, ◌>>=◌, ◌>>◌, want, want_name}
 use Rattle.grammar.specs.Grammar.{const_part, var_part, arg_part, inner_of, later_of, body_of, map_o}
 use Rattle.parser.specs.Parts.{only}
-use Rattle.parser.specs.declared.answer.Answer.{Answer}
+use Rattle.parser.specs.Answer.{Answer}
 use Rattle.parser.specs.Meets.{Meets}
 
 -- constants and variables

@@ -9,8 +9,7 @@ use Rattle.tree.specs.Tree.{Block}
 use Rattle.tree.specs.Layout.{size, enc}
 use Rattle.tree.specs.Reading.{length_enc}
 use Rattle.tree.specs.Nodes.{block_node}
-use Rattle.parser.specs.declared.answer.Answer.{Answer}
-use Rattle.parser.specs.declared.answer.Answer.TheVariants.{Node, Nothing, Refused as Stopped}
+use Rattle.parser.specs.Answer.{Answer, Node, Nothing, Refused as Stopped}
 use Rattle.parser.specs.declared.Parsed.{Parsed}
 use Rattle.parser.specs.declared.Parsed.TheVariants.{Tree, Refused}
 use Rattle.grammar.specs.Grammar.{Parsed as Outcome, tree, refused}

@@ -1,5 +1,6 @@
 pub mod Written
 pub mod See
+pub mod Answer
 pub mod Meets
 pub mod Parts
 pub mod Lists

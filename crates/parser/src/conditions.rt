@@ -5,12 +5,11 @@ ghost use Rattle.grammar.specs.Grammar.{cond};
 ghost use Rattle.parser.specs.Parts.{condition, odds, compared, Compares};
 ghost use Rattle.parser.specs.Meets.{Room, Reads};
 
-use crate::answer::Answer;
 use crate::expressions::parse_exp;
 use crate::nodes::seal;
-use crate::see;
-use crate::see::Seen;
-use lexer::{Cursor, Token, kinds};
+use crate::see::{see, want};
+use lexer::{Cursor, Token};
+use numbers::refusal::Refusal;
 
 // The number of a comparison; 0 for what is none.
 const NO_COMPARISON: u32 = 0;
@@ -42,55 +41,40 @@ fn comparison(t: Token) -> u32
 }
 
 // `odd` exp, or exp sign exp
-pub fn parse_l_exp(text: &[u8], tree: &mut [u32], used: usize, depth: usize, cur: Cursor) -> Answer
+pub fn parse_l_exp(text: &[u8], tree: &mut [u32], used: usize, depth: usize, cur: Cursor) -> Result<(usize, Cursor), Refusal>
     requires { Room text.now tree.old used 12 cur }
-    ensures { Reads condition text.now tree.old used tree.new (λ n. cond text.now n depth) (8 * left cur + 3) 8 0 cur result }
+    ensures { Reads condition text.now tree.old used tree.new (λ n. cond text.now n depth) (8 * left cur + 3) 8 0 cur (node_of result) }
 {
-    let s = see::see(text, cur);
-    let Seen::At(c) = s else {
-        return Answer::Refused(see::why(s));
-    };
-    if see::mark(c) == kinds::ODD {
+    let c = see(text, cur)?;
+    if c.token == Token::Odd {
         return parse_odd(text, tree, used, depth, c.take());
     }
     parse_comparison(text, tree, used, depth, c)
 }
 
 // exp, after `odd`
-fn parse_odd(text: &[u8], tree: &mut [u32], used: usize, depth: usize, cur: Cursor) -> Answer
+fn parse_odd(text: &[u8], tree: &mut [u32], used: usize, depth: usize, cur: Cursor) -> Result<(usize, Cursor), Refusal>
     requires { Room text.now tree.old used 12 cur }
-    ensures { Reads condition text.now tree.old used tree.new (λ n. odds text.now n depth) (8 * left cur + 3) 0 4 cur result }
+    ensures { Reads condition text.now tree.old used tree.new (λ n. odds text.now n depth) (8 * left cur + 3) 0 4 cur (node_of result) }
 {
-    let r = parse_exp(text, tree, used + tree::HEADER, depth, cur);
-    let Answer::Node(end, c) = r else {
-        return r;
-    };
+    let (end, c) = parse_exp(text, tree, used + tree::HEADER, depth, cur)?;
     seal(tree, used, tree::ODD, 0, 1, end);
-    Answer::Node(end, c)
+    Ok((end, c)
 }
 
 // exp sign exp
-fn parse_comparison(text: &[u8], tree: &mut [u32], used: usize, depth: usize, cur: Cursor) -> Answer
+fn parse_comparison(text: &[u8], tree: &mut [u32], used: usize, depth: usize, cur: Cursor) -> Result<(usize, Cursor), Refusal>
     requires { Room text.now tree.old used 12 cur }
-    ensures { Reads condition text.now tree.old used tree.new (λ n. compared text.now n depth) (8 * left cur + 3) 8 0 cur result }
+    ensures { Reads condition text.now tree.old used tree.new (λ n. compared text.now n depth) (8 * left cur + 3) 8 0 cur (node_of result) }
 {
-    let r = parse_exp(text, tree, used + tree::HEADER, depth, cur);
-    let Answer::Node(first, c) = r else {
-        return r;
-    };
-    let s = see::see(text, c);
-    let Seen::At(d) = s else {
-        return Answer::Refused(see::why(s));
-    };
+    let (first, c) = parse_exp(text, tree, used + tree::HEADER, depth, cur)?;
+    let d = see(text, c)?;
     let t = d.token;
     let op = comparison(t);
     if op == NO_COMPARISON {
         return Answer::Refused(see::TOKEN_MISSING);
     }
-    let q = parse_exp(text, tree, first, depth, d.take());
-    let Answer::Node(end, e) = q else {
-        return q;
-    };
+    let (end, e) = parse_exp(text, tree, first, depth, d.take())?;
     seal(tree, used, tree::COMPARISON, op, 2, end);
-    Answer::Node(end, e)
+    Ok((end, e)
 }

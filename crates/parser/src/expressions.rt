@@ -6,11 +6,10 @@ ghost use Rattle.parser.specs.Parts.{operand, negated, signed, bracketed};
 ghost use Rattle.parser.specs.Meets.{Room, Reads};
 ghost use Rattle.parser.specs.See.{operator_of};
 
-use crate::answer::Answer;
 use crate::nodes::seal;
-use crate::see;
-use crate::see::Seen;
-use lexer::{Cursor, Token, kinds};
+use crate::see::{see, want};
+use lexer::{Cursor, Token};
+use numbers::refusal::Refusal;
 
 // How many constructs may be open at once, and the panel's number for one more.
 pub const MAX_OPEN: usize = 64;
@@ -31,10 +30,10 @@ const DIV: u32 = 4;
 fn sum_op(m: usize) -> u32
     ensures { result ≡ operator_of 15 1 16 2 m }
 {
-    if m == kinds::PLUS {
+    if m == Token::Add {
         return ADD;
     }
-    if m == kinds::MINUS {
+    if m == Token::Sub {
         return SUB;
     }
     NO_OP
@@ -43,10 +42,10 @@ fn sum_op(m: usize) -> u32
 fn product_op(m: usize) -> u32
     ensures { result ≡ operator_of 17 3 18 4 m }
 {
-    if m == kinds::TIMES {
+    if m == Token::Mul {
         return MUL;
     }
-    if m == kinds::DIVIDE {
+    if m == Token::Div {
         return DIV;
     }
     NO_OP
@@ -54,52 +53,40 @@ fn product_op(m: usize) -> u32
 
 // [+ or -] term {+ or - term}
 #[cycle(parse_brackets_parse_exp_parse_factor_parse_negated_parse_signed_parse_term)]
-pub fn parse_exp(text: &[u8], tree: &mut [u32], used: usize, depth: usize, cur: Cursor) -> Answer
+pub fn parse_exp(text: &[u8], tree: &mut [u32], used: usize, depth: usize, cur: Cursor) -> Result<(usize, Cursor), Refusal>
     requires { Room text.now tree.old used 8 cur }
-    ensures { Reads (operand 0) text.now tree.old used tree.new (λ n. exp text.now n depth) (8 * left cur + 3) 0 0 cur result }
+    ensures { Reads (operand 0) text.now tree.old used tree.new (λ n. exp text.now n depth) (8 * left cur + 3) 0 0 cur (node_of result) }
 {
-    let r = parse_signed(text, tree, used + tree::HEADER, depth, cur);
-    let Answer::Node(first, start) = r else {
-        return r;
-    };
+    let (first, start) = parse_signed(text, tree, used + tree::HEADER, depth, cur)?;
     let mut end = first;
     let mut count = 1;
     let mut c = start;
     loop {
-        let s = see::see(text, c);
-        let Seen::At(d) = s else {
-            return Answer::Refused(see::why(s));
-        };
-        let op = sum_op(see::mark(d));
+        let d = see(text, c)?;
+        let op = sum_op(d.token);
         if op == NO_OP {
             seal(tree, used, tree::CHAIN, NO_OP, count, end);
-            return Answer::Node(end, d);
+            return Ok((end, d);
         }
-        let q = parse_term(text, tree, end, op, depth, d.take());
-        let Answer::Node(e, f) = q else {
-            return q;
-        };
+        let (e, f) = parse_term(text, tree, end, op, depth, d.take())?;
         end = e;
-        count = count + 1;
+        count += 1;
         c = f;
     }
 }
 
 // [+ or -] term
 #[cycle(parse_brackets_parse_exp_parse_factor_parse_negated_parse_signed_parse_term)]
-pub fn parse_signed(text: &[u8], tree: &mut [u32], used: usize, depth: usize, cur: Cursor) -> Answer
+pub fn parse_signed(text: &[u8], tree: &mut [u32], used: usize, depth: usize, cur: Cursor) -> Result<(usize, Cursor), Refusal>
     requires { Room text.now tree.old used 4 cur }
-    ensures { Reads (operand 0) text.now tree.old used tree.new (λ n. signed text.now n depth) (8 * left cur + 2) 4 0 cur result }
+    ensures { Reads (operand 0) text.now tree.old used tree.new (λ n. signed text.now n depth) (8 * left cur + 2) 4 0 cur (node_of result) }
 {
-    let s = see::see(text, cur);
-    let Seen::At(c) = s else {
-        return Answer::Refused(see::why(s));
-    };
-    let m = see::mark(c);
-    if m == kinds::PLUS {
+    let c = see(text, cur)?;
+    let m = c.token;
+    if m == Token::Add {
         return parse_term(text, tree, used, NO_OP, depth, c.take());
     }
-    if m == kinds::MINUS {
+    if m == Token::Sub {
         return parse_negated(text, tree, used, depth, c.take());
     }
     parse_term(text, tree, used, NO_OP, depth, c)
@@ -113,16 +100,13 @@ pub fn parse_negated(
     used: usize,
     depth: usize,
     cur: Cursor,
-) -> Answer
+) -> Result<(usize, Cursor), Refusal>
     requires { Room text.now tree.old used 8 cur }
-    ensures { Reads (operand 0) text.now tree.old used tree.new (λ n. negated text.now n depth) (8 * left cur + 2) 0 0 cur result }
+    ensures { Reads (operand 0) text.now tree.old used tree.new (λ n. negated text.now n depth) (8 * left cur + 2) 0 0 cur (node_of result) }
 {
-    let r = parse_term(text, tree, used + tree::HEADER, NO_OP, depth, cur);
-    let Answer::Node(end, c) = r else {
-        return r;
-    };
+    let (end, c) = parse_term(text, tree, used + tree::HEADER, NO_OP, depth, cur)?;
     seal(tree, used, tree::NEG, NO_OP, 1, end);
-    Answer::Node(end, c)
+    Ok((end, c)
 }
 
 // factor {* or / factor}
@@ -134,33 +118,24 @@ pub fn parse_term(
     op: u32,
     depth: usize,
     cur: Cursor,
-) -> Answer
+) -> Result<(usize, Cursor), Refusal>
     requires { Room text.now tree.old used 4 cur }
-    ensures { Reads (operand op) text.now tree.old used tree.new (λ n. term text.now n depth) (8 * left cur + 2) 4 0 cur result }
+    ensures { Reads (operand op) text.now tree.old used tree.new (λ n. term text.now n depth) (8 * left cur + 2) 4 0 cur (node_of result) }
 {
-    let r = parse_factor(text, tree, used + tree::HEADER, NO_OP, depth, cur);
-    let Answer::Node(first, start) = r else {
-        return r;
-    };
+    let (first, start) = parse_factor(text, tree, used + tree::HEADER, NO_OP, depth, cur)?;
     let mut end = first;
     let mut count = 1;
     let mut c = start;
     loop {
-        let s = see::see(text, c);
-        let Seen::At(d) = s else {
-            return Answer::Refused(see::why(s));
-        };
-        let next = product_op(see::mark(d));
+        let d = see(text, c)?;
+        let next = product_op(d.token);
         if next == NO_OP {
             seal(tree, used, tree::CHAIN, op, count, end);
-            return Answer::Node(end, d);
+            return Ok((end, d);
         }
-        let q = parse_factor(text, tree, end, next, depth, d.take());
-        let Answer::Node(e, f) = q else {
-            return q;
-        };
+        let (e, f) = parse_factor(text, tree, end, next, depth, d.take())?;
         end = e;
-        count = count + 1;
+        count += 1;
         c = f;
     }
 }
@@ -174,20 +149,17 @@ pub fn parse_factor(
     op: u32,
     depth: usize,
     cur: Cursor,
-) -> Answer
+) -> Result<(usize, Cursor), Refusal>
     requires { Room text.now tree.old used 0 cur }
-    ensures { Reads (operand op) text.now tree.old used tree.new (λ n. factor text.now n depth) (8 * left cur + 1) 8 0 cur result }
+    ensures { Reads (operand op) text.now tree.old used tree.new (λ n. factor text.now n depth) (8 * left cur + 1) 8 0 cur (node_of result) }
 {
-    let s = see::see(text, cur);
-    let Seen::At(c) = s else {
-        return Answer::Refused(see::why(s));
-    };
+    let c = see(text, cur)?;
     let t = c.token;
     match t {
         Token::Identifier(at, n) => {
-            Answer::Node(tree::push_name(tree, used, op, at, n), c.take())
+            Ok((tree::push_name(tree, used, op, at, n), c.take())
         }
-        Token::Integer(v) => Answer::Node(tree::push_number(tree, used, op, v as i64), c.take()),
+        Token::Integer(v) => Ok((tree::push_number(tree, used, op, v as i64), c.take()),
         Token::ParL => {
             if depth < MAX_OPEN {
                 parse_brackets(text, tree, used, op, depth + 1, c.take())
@@ -208,18 +180,12 @@ pub fn parse_brackets(
     op: u32,
     depth: usize,
     cur: Cursor,
-) -> Answer
+) -> Result<(usize, Cursor), Refusal>
     requires { Room text.now tree.old used 12 cur }
-    ensures { Reads (operand op) text.now tree.old used tree.new (λ n. bracketed text.now n depth) (8 * left cur + 3) 8 0 cur result }
+    ensures { Reads (operand op) text.now tree.old used tree.new (λ n. bracketed text.now n depth) (8 * left cur + 3) 8 0 cur (node_of result) }
 {
-    let r = parse_exp(text, tree, used + tree::HEADER, depth, cur);
-    let Answer::Node(end, c) = r else {
-        return r;
-    };
-    let s = see::want(text, c, kinds::CLOSE);
-    let Seen::At(d) = s else {
-        return Answer::Refused(see::why(s));
-    };
+    let (end, c) = parse_exp(text, tree, used + tree::HEADER, depth, cur)?;
+    let d = want(text, c, Token::ParR)?;
     seal(tree, used, tree::BRACKETS, op, 1, end);
-    Answer::Node(end, d)
+    Ok((end, d)
 }
