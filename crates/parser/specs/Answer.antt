@@ -1,5 +1,5 @@
 -- What a reader's result says.
-use Rattle.std.specs.Prelude.{◌×◌, Result, Ok, Err, Option, Some, None, ℕ}
+use Rattle.std.specs.Prelude.{Result, Ok, Err, Option, Some, None, ℕ}
 use Rattle.numbers.specs.declared.refusal.Refusal.{Refusal}
 use Rattle.numbers.specs.Refusals.{number_of}
 use Rattle.lexer.specs.declared.cursor.Cursor.{Cursor}
@@ -20,3 +20,8 @@ abbrev pub try_of : Result (Option ℕ × Cursor) Refusal → Answer
 try_of (Ok (Some e, c)) = Node e c
 try_of (Ok (None, c)) = Nothing c
 try_of (Err w) = Refused (number_of w)
+
+-- of a reader that yields nothing wherever it does not refuse
+abbrev pub quiet_of : Result Cursor Refusal → Answer
+quiet_of (Ok c) = Nothing c
+quiet_of (Err w) = Refused (number_of w)

@@ -1,11 +1,12 @@
 // Lists of expressions, in a call or a `write`.
 ghost use Rattle.std.specs.Prelude.{◌+◌, ◌≤◌};
 ghost use Rattle.parser.specs.Arguments.{Argues};
+ghost use Rattle.parser.specs.Answer.{node_of};
 ghost use Rattle.parser.specs.Meets.{Room};
 
 use crate::expressions::parse_exp;
 use crate::lists::end_list;
-use crate::see::{see, want};
+use crate::see::see;
 use lexer::{Cursor, Token};
 use numbers::refusal::Refusal;
 

@@ -3,11 +3,12 @@ ghost use Rattle.std.specs.Prelude.{◌+◌, ◌*◌};
 ghost use Rattle.lexer.specs.Stands.{left};
 ghost use Rattle.grammar.specs.Grammar.{cond};
 ghost use Rattle.parser.specs.Parts.{condition, odds, compared, Compares};
+ghost use Rattle.parser.specs.Answer.{node_of};
 ghost use Rattle.parser.specs.Meets.{Room, Reads};
 
 use crate::expressions::parse_exp;
 use crate::nodes::seal;
-use crate::see::{see, want};
+use crate::see::see;
 use lexer::{Cursor, Token};
 use numbers::refusal::Refusal;
 
@@ -59,7 +60,7 @@ fn parse_odd(text: &[u8], tree: &mut [u32], used: usize, depth: usize, cur: Curs
 {
     let (end, c) = parse_exp(text, tree, used + tree::HEADER, depth, cur)?;
     seal(tree, used, tree::ODD, 0, 1, end);
-    Ok((end, c)
+    Ok((end, c))
 }
 
 // exp sign exp
@@ -72,9 +73,9 @@ fn parse_comparison(text: &[u8], tree: &mut [u32], used: usize, depth: usize, cu
     let t = d.token;
     let op = comparison(t);
     if op == NO_COMPARISON {
-        return Answer::Refused(see::TOKEN_MISSING);
+        return Err(Refusal::TokenMissing);
     }
     let (end, e) = parse_exp(text, tree, first, depth, d.take())?;
     seal(tree, used, tree::COMPARISON, op, 2, end);
-    Ok((end, e)
+    Ok((end, e))
 }

@@ -12,10 +12,9 @@ ghost use Rattle.parser.specs.Meets.{Room, Reads};
 
 use crate::lists::{end_list, parse_id, parse_ids, parse_integer};
 use crate::nodes::seal;
-use crate::see;
+use crate::see::{see, want};
 use lexer::{Cursor, Token};
 use numbers::refusal::Refusal;
-use tree::Kind;
 
 // name `:=` number
 pub fn parse_const(
@@ -28,9 +27,9 @@ pub fn parse_const(
     ensures { Reads (λ c. only (const_node c)) text.now tree.old used tree.new (λ n. const_def text.now) 0 8 0 cur (node_of result) }
 {
     let (named, c) = parse_id(text, tree, used + tree::HEADER, cur)?;
-    let d = see::want(text, c, Token::EqSign)?;
+    let d = want(text, c, Token::EqSign)?;
     let (end, e) = parse_integer(text, tree, named, d)?;
-    seal(tree, used, Kind::Constant, 0, 2, end);
+    seal(tree, used, tree::CONSTANT, 0, 2, end);
     Ok((end, e))
 }
 
@@ -51,9 +50,9 @@ pub fn parse_consts(
         let (e, d) = parse_const(text, tree, end, c)?;
         end = e;
         count += 1;
-        let f = see::see(text, d)?;
+        let f = see(text, d)?;
         if f.token != Token::Comma {
-            return end_list(text, tree, used, Kind::List, Token::Semicolon, count, end, f);
+            return end_list(text, tree, used, tree::LIST, Token::Semicolon, count, end, f);
         }
         c = f.take();
     }
@@ -69,11 +68,11 @@ pub fn parse_const_decl(
     requires { Room text.now tree.old used 4 cur }
     ensures { Reads (λ cs. only (consts_node cs)) text.now tree.old used tree.new (λ n. const_part text.now n) (8 * left cur + 1) 0 4 cur (node_of result) }
 {
-    let c = see::see(text, cur)?;
+    let c = see(text, cur)?;
     if c.token == Token::Const {
         return parse_consts(text, tree, used, c.take());
     }
-    Ok((tree::push(tree, used, Kind::List, 0, 0, 0), c))
+    Ok((tree::push(tree, used, tree::LIST, 0, 0, 0), c))
 }
 
 // [`var` names `;`]
@@ -86,11 +85,11 @@ pub fn parse_var_decl(
     requires { Room text.now tree.old used 4 cur }
     ensures { Reads (λ ns. only (names_node ns)) text.now tree.old used tree.new (λ n. var_part text.now n) (8 * left cur + 1) 0 4 cur (node_of result) }
 {
-    let c = see::see(text, cur)?;
+    let c = see(text, cur)?;
     if c.token == Token::Var {
-        return parse_ids(text, tree, used, Kind::List, Token::Semicolon, c.take());
+        return parse_ids(text, tree, used, tree::LIST, Token::Semicolon, c.take());
     }
-    Ok((tree::push(tree, used, Kind::List, 0, 0, 0), c))
+    Ok((tree::push(tree, used, tree::LIST, 0, 0, 0), c))
 }
 
 // [names] `)`
@@ -103,11 +102,11 @@ pub fn parse_args(
     requires { Room text.now tree.old used 4 cur }
     ensures { Reads (λ ns. only (names_node ns)) text.now tree.old used tree.new (λ n. arg_part text.now n) (8 * left cur + 1) 8 0 cur (node_of result) }
 {
-    let c = see::see(text, cur)?;
+    let c = see(text, cur)?;
     if c.token != Token::ParR {
-        return parse_ids(text, tree, used, Kind::List, Token::ParR, c);
+        return parse_ids(text, tree, used, tree::LIST, Token::ParR, c);
     }
-    Ok((tree::push(tree, used, Kind::List, 0, 0, 0), c.take()))
+    Ok((tree::push(tree, used, tree::LIST, 0, 0, 0), c.take()))
 }
 
 // The constants and the variables of a block: two nodes.

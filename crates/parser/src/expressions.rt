@@ -3,6 +3,7 @@ ghost use Rattle.std.specs.Prelude.{◌≡◌, ◌+◌, ◌*◌};
 ghost use Rattle.lexer.specs.Stands.{left};
 ghost use Rattle.grammar.specs.Grammar.{exp, term, factor};
 ghost use Rattle.parser.specs.Parts.{operand, negated, signed, bracketed};
+ghost use Rattle.parser.specs.Answer.{node_of};
 ghost use Rattle.parser.specs.Meets.{Room, Reads};
 ghost use Rattle.parser.specs.See.{operator_of};
 
@@ -11,11 +12,7 @@ use crate::see::{see, want};
 use lexer::{Cursor, Token};
 use numbers::refusal::Refusal;
 
-// How many constructs may be open at once, and the panel's number for one more.
-pub const MAX_OPEN: usize = 64;
-
-pub const TOO_MANY_OPEN: usize = 7;
-
+use numbers::limits::MAX_OPEN;
 // How the member after an operator joins what stands before it; 0 for what is no such operator.
 pub const NO_OP: u32 = 0;
 
@@ -27,8 +24,7 @@ const MUL: u32 = 3;
 
 const DIV: u32 = 4;
 
-fn sum_op(m: usize) -> u32
-    ensures { result ≡ operator_of 15 1 16 2 m }
+fn sum_op(m: Token) -> u32
 {
     if m == Token::Add {
         return ADD;
@@ -39,8 +35,7 @@ fn sum_op(m: usize) -> u32
     NO_OP
 }
 
-fn product_op(m: usize) -> u32
-    ensures { result ≡ operator_of 17 3 18 4 m }
+fn product_op(m: Token) -> u32
 {
     if m == Token::Mul {
         return MUL;
@@ -66,7 +61,7 @@ pub fn parse_exp(text: &[u8], tree: &mut [u32], used: usize, depth: usize, cur: 
         let op = sum_op(d.token);
         if op == NO_OP {
             seal(tree, used, tree::CHAIN, NO_OP, count, end);
-            return Ok((end, d);
+            return Ok((end, d));
         }
         let (e, f) = parse_term(text, tree, end, op, depth, d.take())?;
         end = e;
@@ -106,7 +101,7 @@ pub fn parse_negated(
 {
     let (end, c) = parse_term(text, tree, used + tree::HEADER, NO_OP, depth, cur)?;
     seal(tree, used, tree::NEG, NO_OP, 1, end);
-    Ok((end, c)
+    Ok((end, c))
 }
 
 // factor {* or / factor}
@@ -131,7 +126,7 @@ pub fn parse_term(
         let next = product_op(d.token);
         if next == NO_OP {
             seal(tree, used, tree::CHAIN, op, count, end);
-            return Ok((end, d);
+            return Ok((end, d));
         }
         let (e, f) = parse_factor(text, tree, end, next, depth, d.take())?;
         end = e;
@@ -157,17 +152,17 @@ pub fn parse_factor(
     let t = c.token;
     match t {
         Token::Identifier(at, n) => {
-            Ok((tree::push_name(tree, used, op, at, n), c.take())
+            Ok((tree::push_name(tree, used, op, at, n), c.take()))
         }
-        Token::Integer(v) => Ok((tree::push_number(tree, used, op, v as i64), c.take()),
+        Token::Integer(v) => Ok((tree::push_number(tree, used, op, v as i64), c.take())),
         Token::ParL => {
             if depth < MAX_OPEN {
                 parse_brackets(text, tree, used, op, depth + 1, c.take())
             } else {
-                Answer::Refused(TOO_MANY_OPEN)
+                Err(Refusal::TooManyOpen)
             }
         }
-        _ => Answer::Refused(see::TOKEN_MISSING),
+        _ => Err(Refusal::TokenMissing),
     }
 }
 
@@ -187,5 +182,5 @@ pub fn parse_brackets(
     let (end, c) = parse_exp(text, tree, used + tree::HEADER, depth, cur)?;
     let d = want(text, c, Token::ParR)?;
     seal(tree, used, tree::BRACKETS, op, 1, end);
-    Ok((end, d)
+    Ok((end, d))
 }

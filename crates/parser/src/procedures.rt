@@ -11,12 +11,11 @@ ghost use Rattle.parser.specs.Meets.{Room, Reads, Tries};
 use crate::declarations::{parse_args, parse_decls};
 use crate::lists::parse_id;
 use crate::nodes::seal;
-use crate::see;
+use crate::see::{see, want};
 use crate::statements::parse_body;
 use lexer::{Cursor, Token};
 use numbers::limits::MAX_OPEN;
 use numbers::refusal::Refusal;
-use tree::Kind;
 
 // `procedure` name `(` [names] `)` `;`: two nodes
 pub fn parse_proc_head(
@@ -28,11 +27,11 @@ pub fn parse_proc_head(
     requires { Room text.now tree.old used 0 cur }
     ensures { Reads head_nodes text.now tree.old used tree.new (λ n. head text.now n) (8 * left cur) 40 0 cur (node_of result) }
 {
-    let c = see::want(text, cur, Token::Procedure)?;
+    let c = want(text, cur, Token::Procedure)?;
     let (named, d) = parse_id(text, tree, used, c)?;
-    let e = see::want(text, d, Token::ParL)?;
+    let e = want(text, d, Token::ParL)?;
     let (end, f) = parse_args(text, tree, named, e)?;
-    let g = see::want(text, f, Token::Semicolon)?;
+    let g = want(text, f, Token::Semicolon)?;
     Ok((end, g))
 }
 
@@ -63,7 +62,7 @@ pub fn parse_proc(
     let Some(end) = later else {
         return Ok((None, g));
     };
-    seal(tree, used, Kind::Procedure, 0, 7, end);
+    seal(tree, used, tree::PROCEDURE, 0, 7, end);
     Ok((Some(end), g))
 }
 
@@ -79,11 +78,11 @@ pub fn parse_later(
     requires { Room text.now tree.old used 4 cur }
     ensures { Tries (λ p. only (procs_node p)) text.now tree.old used tree.new (λ n. later_of text.now n depth) (8 * left cur + 1) 0 4 cur (try_of result) }
 {
-    let c = see::see(text, cur)?;
+    let c = see(text, cur)?;
     if c.token == Token::Semicolon {
         return parse_proc(text, tree, used, depth, c.take());
     }
-    let end = tree::push(tree, used, Kind::NoProcedures, 0, 0, 0);
+    let end = tree::push(tree, used, tree::NO_PROCEDURES, 0, 0, 0);
     Ok((Some(end), c))
 }
 
@@ -115,14 +114,14 @@ pub fn parse_inner(
     requires { Room text.now tree.old used 4 cur }
     ensures { Reads (λ p. only (procs_node p)) text.now tree.old used tree.new (λ n. inner_of text.now n depth) (8 * left cur + 2) 0 4 cur (node_of result) }
 {
-    let c = see::see(text, cur)?;
+    let c = see(text, cur)?;
     if c.token != Token::Procedure {
-        return Ok((tree::push(tree, used, Kind::NoProcedures, 0, 0, 0), c));
+        return Ok((tree::push(tree, used, tree::NO_PROCEDURES, 0, 0, 0), c));
     }
     let (procedures, d) = parse_proc(text, tree, used, depth, c)?;
     match procedures {
         Some(end) => Ok((end, d)),
-        None => Ok((tree::push(tree, used, Kind::NoProcedures, 0, 0, 0), d)),
+        None => Ok((tree::push(tree, used, tree::NO_PROCEDURES, 0, 0, 0), d)),
     }
 }
 
@@ -141,7 +140,7 @@ pub fn parse_block(
     let Some(end) = body else {
         return Ok((None, d));
     };
-    seal(tree, used, Kind::Block, 0, 4, end);
+    seal(tree, used, tree::BLOCK, 0, 4, end);
     Ok((Some(end), d))
 }
 
@@ -154,8 +153,8 @@ pub fn parse_program(
     requires { Room text.now tree.old 0 20 cur }
     ensures { Tries (λ b. only (block_node b)) text.now tree.old 0 tree.new (λ n. program text.now n) (8 * left cur) 0 16 cur (try_of result) }
 {
-    let c = see::want(text, cur, Token::Program)?;
+    let c = want(text, cur, Token::Program)?;
     let (_, d) = parse_id(text, tree, 0, c)?;
-    let e = see::want(text, d, Token::Semicolon)?;
+    let e = want(text, d, Token::Semicolon)?;
     parse_block(text, tree, 0, e)
 }

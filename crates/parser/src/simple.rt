@@ -10,10 +10,9 @@ use crate::arguments::parse_exps;
 use crate::expressions::parse_exp;
 use crate::lists::{parse_id, parse_ids};
 use crate::nodes::seal;
-use crate::see;
+use crate::see::{see, want};
 use lexer::{Cursor, Token};
 use numbers::refusal::Refusal;
-use tree::Kind;
 
 // `:=` exp, after the name
 pub fn parse_assign(
@@ -29,10 +28,10 @@ pub fn parse_assign(
     requires len_in_bounds { at + len ≤ length text.now }
     ensures { Tries statement text.now tree.old used tree.new (λ n. assigned text.now (name_at text.now at len) n depth) (8 * left cur + 3) 4 0 cur (try_of result) }
 {
-    let c = see::want(text, cur, Token::EqSign)?;
+    let c = want(text, cur, Token::EqSign)?;
     let named = tree::push_name(tree, used + tree::HEADER, 0, at, len);
     let (end, d) = parse_exp(text, tree, named, depth, c)?;
-    seal(tree, used, Kind::Assign, 0, 2, end);
+    seal(tree, used, tree::ASSIGN, 0, 2, end);
     Ok((Some(end), d))
 }
 
@@ -48,13 +47,13 @@ pub fn parse_call(
     ensures { Tries statement text.now tree.old used tree.new (λ n. called text.now n depth) (8 * left cur + 3) 8 0 cur (try_of result) }
 {
     let (named, c) = parse_id(text, tree, used + tree::HEADER, cur)?;
-    let d = see::want(text, c, Token::ParL)?;
-    let e = see::see(text, d)?;
+    let d = want(text, c, Token::ParL)?;
+    let e = see(text, d)?;
     if e.token == Token::ParR {
-        seal(tree, used, Kind::Call, 0, 1, named);
+        seal(tree, used, tree::CALL, 0, 1, named);
         return Ok((Some(named), e.take()));
     }
-    let (end, f) = parse_exps(text, tree, used, Kind::Call, 1, named, depth, e)?;
+    let (end, f) = parse_exps(text, tree, used, tree::CALL, 1, named, depth, e)?;
     Ok((Some(end), f))
 }
 
@@ -69,8 +68,8 @@ pub fn parse_read(
     requires { Room text.now tree.old used 16 cur }
     ensures { Tries statement text.now tree.old used tree.new (λ n. reading text.now n depth) (8 * left cur + 3) 8 0 cur (try_of result) }
 {
-    let c = see::want(text, cur, Token::ParL)?;
-    let (end, d) = parse_ids(text, tree, used, Kind::Read, Token::ParR, c)?;
+    let c = want(text, cur, Token::ParL)?;
+    let (end, d) = parse_ids(text, tree, used, tree::READ, Token::ParR, c)?;
     Ok((Some(end), d))
 }
 
@@ -85,8 +84,8 @@ pub fn parse_write(
     requires { Room text.now tree.old used 16 cur }
     ensures { Tries statement text.now tree.old used tree.new (λ n. writing text.now n depth) (8 * left cur + 3) 8 0 cur (try_of result) }
 {
-    let c = see::want(text, cur, Token::ParL)?;
+    let c = want(text, cur, Token::ParL)?;
     let start = used + tree::HEADER;
-    let (end, d) = parse_exps(text, tree, used, Kind::Write, 0, start, depth, c)?;
+    let (end, d) = parse_exps(text, tree, used, tree::WRITE, 0, start, depth, c)?;
     Ok((Some(end), d))
 }

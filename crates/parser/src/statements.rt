@@ -8,12 +8,11 @@ ghost use Rattle.parser.specs.Meets.{Room, Tries};
 
 use crate::conditions::parse_l_exp;
 use crate::nodes::seal;
-use crate::see;
+use crate::see::{see, want};
 use crate::simple::{parse_assign, parse_call, parse_read, parse_write};
 use lexer::{Cursor, Token};
 use numbers::limits::MAX_OPEN;
 use numbers::refusal::Refusal;
-use tree::Kind;
 
 // A statement place: the test for one construct too many comes before the token is judged, and a token that starts no statement yields nothing.
 #[cycle(parse_body_parse_else_part_parse_if_parse_statement_parse_statements_parse_while_read_on)]
@@ -30,7 +29,7 @@ pub fn parse_statement(
     if MAX_OPEN <= depth {
         return Err(Refusal::TooManyOpen);
     }
-    let c = see::see(text, cur)?;
+    let c = see(text, cur)?;
     match c.token {
         Token::Identifier(at, n) => parse_assign(text, tree, used, depth + 1, at, n, c.take()),
         Token::If => parse_if(text, tree, used, depth + 1, c.take()),
@@ -56,12 +55,12 @@ pub fn parse_while(
     ensures { Tries statement text.now tree.old used tree.new (λ n. looped text.now n depth) (8 * left cur + 3) 8 0 cur (try_of result) }
 {
     let (tested, c) = parse_l_exp(text, tree, used + tree::HEADER, depth, cur)?;
-    let d = see::want(text, c, Token::Do)?;
+    let d = want(text, c, Token::Do)?;
     let (repeated, e) = parse_statement(text, tree, tested, depth, d)?;
     let Some(end) = repeated else {
         return Ok((None, e));
     };
-    seal(tree, used, Kind::While, 0, 2, end);
+    seal(tree, used, tree::WHILE, 0, 2, end);
     Ok((Some(end), e))
 }
 
@@ -79,7 +78,7 @@ pub fn parse_if(
     ensures { Tries statement text.now tree.old used tree.new (λ n. conditional text.now n depth) (8 * left cur + 3) 8 0 cur (try_of result) }
 {
     let (tested, c) = parse_l_exp(text, tree, used + tree::HEADER, depth, cur)?;
-    let d = see::want(text, c, Token::Then)?;
+    let d = want(text, c, Token::Then)?;
     let (then_part, e) = parse_statement(text, tree, tested, depth, d)?;
     let Some(done) = then_part else {
         let (_, f) = parse_else_part(text, tree, tested, depth, e)?;
@@ -88,11 +87,11 @@ pub fn parse_if(
     let (else_part, g) = parse_else_part(text, tree, done, depth, e)?;
     match else_part {
         Some(end) => {
-            seal(tree, used, Kind::If, 0, 3, end);
+            seal(tree, used, tree::IF, 0, 3, end);
             Ok((Some(end), g))
         }
         None => {
-            seal(tree, used, Kind::If, 0, 2, done);
+            seal(tree, used, tree::IF, 0, 2, done);
             Ok((Some(done), g))
         }
     }
@@ -110,7 +109,7 @@ pub fn parse_else_part(
     requires { Room text.now tree.old used 0 cur }
     ensures { Tries statement text.now tree.old used tree.new (λ n. else_part text.now n depth) (8 * left cur + 3) 8 0 cur (try_of result) }
 {
-    let c = see::see(text, cur)?;
+    let c = see(text, cur)?;
     if c.token != Token::Else {
         return Ok((None, c));
     }
@@ -129,12 +128,12 @@ pub fn parse_body(
     requires { Room text.now tree.old used 4 cur }
     ensures { Tries body text.now tree.old used tree.new (λ n. body_of text.now n depth) (8 * left cur + 1) 8 0 cur (try_of result) }
 {
-    let c = see::want(text, cur, Token::Begin)?;
+    let c = want(text, cur, Token::Begin)?;
     let (members, d) = parse_statements(text, tree, used, depth, c)?;
     let Some(end) = members else {
         return Ok((None, d));
     };
-    let e = see::want(text, d, Token::End)?;
+    let e = want(text, d, Token::End)?;
     Ok((Some(end), e))
 }
 
@@ -161,9 +160,9 @@ pub fn parse_statements(
         };
         end = e;
         count += 1;
-        let f = see::see(text, d)?;
+        let f = see(text, d)?;
         if f.token != Token::Semicolon {
-            seal(tree, used, Kind::Body, 0, count, end);
+            seal(tree, used, tree::BODY, 0, count, end);
             return Ok((Some(end), f));
         }
         c = f.take();
@@ -184,7 +183,7 @@ pub fn read_on(
 {
     let mut c = cur;
     loop {
-        let d = see::see(text, c)?;
+        let d = see(text, c)?;
         if d.token != Token::Semicolon {
             return Ok(d);
         }
