@@ -165,8 +165,8 @@ module _ (src : List ℕ) (o : ℕ) where
           pub if_quiet : {ws : List ℕ} (j : Perhaps ℕ) {f : Cursor} → Tries statement src zs i ws (λ n. else_part src n o) (8 * left e + 3) 8 0 e (try_of (Ok (j, f)))
               → Tries statement src xs u ws (λ n. conditional src n o) (8 * left c + 3) 8 0 c (Nothing f)
           unfolding if_node
-          if_quiet j he =
-              nothing (omega (arith, try_left j he, quiet_left hs z, (grew h q).fewer))
+          if_quiet j {f} he =
+              nothing (omega (arith, try_left j f he, quiet_left hs z, (grew h q).fewer))
               (λ n l k s.
               let b = then_at n l k s in
               let x = quiet hs z n b.enough b.place b.stands in

@@ -304,13 +304,13 @@ module _ (src : List ℕ) (o : ℕ) where
           pub reading_more : {zs : List ℕ} {s' : ℕ} → Room src ys u s' t → (j : Perhaps ℕ) {t' : Cursor} → Tries P.statement src ys u zs (λ n. stmt src n o) (8 * left t + 3) 8 0 t (try_of (Ok (j, t'))) → length zs ≡ length ys → Reading xs u c₀ zs t'
           unfolding join
           reading_more rm j {t'} h len = record {
-            fewer = omega (arith, g.fewer, try_left j h);
+            fewer = omega (arith, g.fewer, try_left j t' h);
             same = len ∙ g.same;
             kept = wrote_more g.kept (went j h (8 * left t + 3) (omega arith) rm.place rm.stands).wrote;
             on = λ n l k s. at_semicolon n l k s (At' t')
                 (λ m l' k₁ s₁.
                 let x = went j h m (omega arith) k₁ s₁ in
-                record { fuel = m; enough = omega (arith, try_left j h); at = x.at; stands = x.stands; is = quiet_again m k₁ x.value x.at x.is });
+                record { fuel = m; enough = omega (arith, try_left j t' h); at = x.at; stands = x.stands; is = quiet_again m k₁ x.value x.at x.is });
           }
 
           pub reading_refused : {w : ℕ} → Refuses src (λ n. stmt src n o) (8 * left t + 3) t w → Refuses src (λ n. quiet_rest src n o) (8 * left c₀ + 1) c₀ w

@@ -252,7 +252,7 @@ module _ (src : List ℕ) where
                   → Tries (λ p. only (procs_node p)) src xs u ws (λ n. proc_of src n o) (8 * left c + 1) 0 0 c (Nothing t)
               unfolding both
               proc_quiet {ws} j {t} h4 =
-                  nothing (omega (arith, try_left j h4, quiet_left h3 z, fewer2))
+                  nothing (omega (arith, try_left j t h4, quiet_left h3 z, fewer2))
                   (by_suc (λ x. (k : Place) → Stands src c k → Quiet some (λ v. v ≡ none) (λ p. only (procs_node p)) src xs u ws t (proc_of src x o k)) (8 * left c + 1) (omega arith)
                   (λ x l k s.
                   let a = fronted x (omega arith) k s in
@@ -385,13 +385,13 @@ module _ (src : List ℕ) where
               record { value = no_procs; at = k; is = inner_is x k s ∙ ap (λ (b : Bool). choose b (absent x) (pure no_procs) k) (it_is_not p procedure_word i); stands = p.stands; wrote = wrote_empty no_procedures_kind fits q l });
         }
 
-        module _ (i : d.token ≡ token_of procedure_word) (f : left d ≡ left c) {xs ys : List ℕ} {u : ℕ} where
-          -- a refusal
-          pub inner_in : {w : ℕ} → Refuses src (λ n. proc_of src n o) (8 * left d + 1) d w → Refuses src (λ n. inner_of src n o) (8 * left c + 2) c w
-          inner_in {w} z =
-              by_suc (λ x. (k : Place) → Stands src c k → inner_of src x o k ≡ refuse w) (8 * left c + 2) (omega arith)
-              (λ x l k s. inner_there i x k s ∙ ap (then _) (z x (omega arith) k (saw h at k s).1.stands))
+        -- a refusal
+        pub inner_in : d.token ≡ token_of procedure_word → {w : ℕ} → Refuses src (λ n. proc_of src n o) (8 * left d + 1) d w → left d ≡ left c → Refuses src (λ n. inner_of src n o) (8 * left c + 2) c w
+        inner_in i {w} z f =
+            by_suc (λ x. (k : Place) → Stands src c k → inner_of src x o k ≡ refuse w) (8 * left c + 2) (omega arith)
+            (λ x l k s. inner_there i x k s ∙ ap (then _) (z x (omega arith) k (saw h at k s).1.stands))
 
+        module _ (i : d.token ≡ token_of procedure_word) (f : left d ≡ left c) {xs ys : List ℕ} {u : ℕ} where
           -- a procedure
           pub inner_up : {r : Answer} {e : ℕ} {t : Cursor} → Tries (λ p. only (procs_node p)) src xs u ys (λ n. proc_of src n o) (8 * left d + 1) 0 0 d r → r ≡ Node e t
               → Reads (λ p. only (procs_node p)) src xs u ys (λ n. inner_of src n o) (8 * left c + 2) 0 4 c (Node e t)

@@ -46,10 +46,10 @@ module _ {A B : Type 0} {yes : A → B} {no : B → Type 0} {nodes : A → Nodes
         record { place = b.at; stands = b.stands; short = p.short; small = omega (arith, p.small); room = omega (arith, p.room, quiet_left) }
 
   -- whatever was yielded
-  pub try_left : (o : Option ℕ) {d : Cursor} → Meets yes no nodes src xs u ys f m spare debt c (try_of (Ok (o, d))) → left d ≤ left c
+  pub try_left : (o : Option ℕ) (d : Cursor) → Meets yes no nodes src xs u ys f m spare debt c (try_of (Ok (o, d))) → left d ≤ left c
   unfolding Safe
-  try_left None h = h.safe
-  try_left (Some e) h = h.safe.fewer
+  try_left None d h = h.safe
+  try_left (Some e) d h = h.safe.fewer
 
   pub went : (o : Option ℕ) {d : Cursor} → Meets yes no nodes src xs u ys f m spare debt c (try_of (Ok (o, d))) → (n : ℕ) → m ≤ n → (k : Place) → Stands src c k → Went src xs u ys d (f n k)
   unfolding Means
