@@ -1,5 +1,5 @@
 // The tokens, in the order of the Rust.
-#[derive(Clone, Copy)]
+#[derive(Clone, Copy, PartialEq, Eq)]
 pub enum Token {
     If,
     Then,
@@ -44,7 +44,7 @@ pub enum Token {
 }
 
 // A token, and where the next is looked for.
-#[derive(Clone, Copy)]
+#[derive(Clone, Copy, PartialEq, Eq)]
 pub struct Lexed {
     pub token: Token,
     pub next: usize,
