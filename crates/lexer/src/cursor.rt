@@ -24,10 +24,9 @@ pub struct Cursor {
 fn beyond(token: Token) -> Token
     ensures { Beyond token result }
 {
-    if token == Token::EndOfText {
-        token
-    } else {
-        Token::TooMany
+    match token {
+        Token::EndOfText => token,
+        _ => Token::TooMany,
     }
 }
 

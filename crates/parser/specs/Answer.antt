@@ -1,5 +1,5 @@
 -- What a reader's result says.
-use Rattle.std.specs.Prelude.{◌×◌, Result, Ok, Err, Option, Some, None, ℕ}
+use Rattle.std.specs.Prelude.{Result, Ok, Err, Option, Some, None, ℕ}
 use Rattle.numbers.specs.declared.refusal.Refusal.{Refusal}
 use Rattle.numbers.specs.Refusals.{number_of}
 use Rattle.lexer.specs.declared.cursor.Cursor.{Cursor}

@@ -35,9 +35,9 @@ pub fn parse_exps(
         end = e;
         count += 1;
         let f = see(text, d)?;
-        if f.token != Token::Comma {
+        let Token::Comma = f.token else {
             return end_list(text, tree, used, kind, Token::ParR, count, end, f);
-        }
+        };
         c = f.take();
     }
 }

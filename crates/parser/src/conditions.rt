@@ -35,10 +35,10 @@ pub fn parse_l_exp(text: &[u8], tree: &mut [u32], used: usize, depth: usize, cur
     ensures { Reads condition text.now tree.old used tree.new (λ n. cond text.now n depth) (8 * left cur + 3) 8 0 cur (node_of result) }
 {
     let c = see(text, cur)?;
-    if c.token == Token::Odd {
-        return parse_odd(text, tree, used, depth, c.take());
+    match c.token {
+        Token::Odd => parse_odd(text, tree, used, depth, c.take()),
+        _ => parse_comparison(text, tree, used, depth, c),
     }
-    parse_comparison(text, tree, used, depth, c)
 }
 
 // exp, after `odd`

@@ -93,9 +93,9 @@ pub fn parse_ids(
         end = e;
         count += 1;
         let f = see(text, d)?;
-        if f.token != Token::Comma {
+        let Token::Comma = f.token else {
             return end_list(text, tree, used, kind, close, count, end, f);
-        }
+        };
         c = f.take();
     }
 }
