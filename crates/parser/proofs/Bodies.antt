@@ -97,7 +97,7 @@ module _ (src : List ℕ) (o : ℕ) where
           (by_suc (λ n. (k : Place) → Stands src c k → Quiet some (λ v. v ≡ none) P.statement src xs u xs d (stmt src n o k)) (8 * left c + 3) (omega arith)
           (λ n l k s.
           let y = saw h at k s in
-          let q = (known src d.token y.0 y.1.means).1 in
+          let q = (known src d.token y.0 y.1.means) in
           let off : (n : ℕ) → (n ≡ 30 → ⊥) → (n ≡ 31 → ⊥) → (d.token ≡ plain n → ⊥) → kind_in y.0 ≡ n → ⊥ = λ n a b e z. no_plain d.token n a b e (q ∙ z) in
           let z = no_start_lem y.0 (λ e. no_identifier d.token no_id (q ∙ e)) (off 0 (λ q. omega (arith, q)) (λ q. omega (arith, q)) no_if) (off 3 (λ q. omega (arith, q)) (λ q. omega (arith, q)) no_while) (off 11 (λ q. omega (arith, q)) (λ q. omega (arith, q)) no_call) (off 9 (λ q. omega (arith, q)) (λ q. omega (arith, q)) no_begin) (off 12 (λ q. omega (arith, q)) (λ q. omega (arith, q)) no_read) (off 13 (λ q. omega (arith, q)) (λ q. omega (arith, q)) no_write) in
           record { value = none; empty = refl; at = k; is = stmt_by n k y.0 none under y.1.looks z; stands = y.1.stands; wrote = wrote_none (omega (arith, p.room)) }))

@@ -174,7 +174,7 @@ module _ (src : List ℕ) (o : ℕ) where
         by_suc (λ x. (k : Place) → Stands src c k → factor src x o k ≡ refuse token_missing) (8 * left c + 1) (omega arith)
         (λ x l k s.
         let p = saw h at k s in
-        let y = (known src d.token p.0 p.1.means).1 in
+        let y = (known src d.token p.0 p.1.means) in
         let z = no_factor_lem p.0 (λ e. no_identifier d.token f (y ∙ e)) (λ e. no_integer d.token g (y ∙ e)) (λ e. no_plain d.token 26 (λ q. omega (arith, q)) (λ q. omega (arith, q)) i (y ∙ e)) in
         at_other z.0 z.1.1 x k (subst (λ (w : Word). look src k ≡ got w k) z.1.0 p.1.looks))
 

@@ -1,7 +1,6 @@
 pub mod Tokens
 pub mod Seeing
 pub mod Writing
-pub mod Operators
 pub mod Answers
 pub mod Loops
 pub mod Choices

@@ -54,13 +54,13 @@ module _ {src : List ℕ} {c : Cursor} {v : Seen} (h : Sees src c v) where
     unfolding want_name
     name_other o n l k s =
         let p = saw h at k s in
-        ap (then _) p.1.looks ∙ no_name src k p.0 (λ e. no_identifier d.token o ((known src d.token p.0 p.1.means).1 ∙ e))
+        ap (then _) p.1.looks ∙ no_name src k p.0 (λ e. no_identifier d.token o ((known src d.token p.0 p.1.means) ∙ e))
 
     pub number_other : {m : ℕ} → ((v : ℕ) → d.token ≡ Integer v → ⊥) → Refuses src (λ n. want_number src) m c token_missing
     unfolding want_number
     number_other o n l k s =
         let p = saw h at k s in
-        ap (then _) p.1.looks ∙ no_number src k p.0 (λ e. no_integer d.token o ((known src d.token p.0 p.1.means).1 ∙ e))
+        ap (then _) p.1.looks ∙ no_number src k p.0 (λ e. no_integer d.token o ((known src d.token p.0 p.1.means) ∙ e))
 
     -- it is there, and its leaf was written
     module _ {t : Cursor} (took : t ≡ taken d) (fewer : suc (left t) ≡ left c) {xs ys : List ℕ} {u e : ℕ} (fits : u ≤ length xs) (ends : e ≡ u + 4) where

@@ -12,12 +12,12 @@ use Rattle.numbers.specs.declared.refusal.Refusal.TheVariants.{TokenMissing}
 use Rattle.numbers.specs.Refusals.{number_of}
 use Rattle.numbers.specs.Panel.{token_missing, too_many_open}
 use Rattle.numbers.specs.Limits.{max_open}
+use Rattle.lexer.specs.Kinds.{kind_of}
 use Rattle.lexer.specs.Spelling.{token_of}
 use Rattle.lexer.specs.Marks.{Mark, place_of}
 use Rattle.lexer.specs.Tokens.{Token as Word}
 use Rattle.lexer.specs.Cursor.{Cursor as Place, got, refuse, Reader, look, take}
 use Rattle.lexer.specs.Meaning.{Sight, meaning}
-use Rattle.lexer.specs.Kinds.{kind_of}
 use Rattle.lexer.specs.Stands.{Stands, Looks, taken, past, told, look_holds, holds_stands, holds_answer, take_stands, look_left, take_left}
 use Rattle.lexer.specs.declared.token.Token.{Token}
 use Rattle.lexer.specs.declared.cursor.Cursor.{Cursor}
@@ -59,7 +59,7 @@ module _ {src : List ℕ} {c d : Cursor} (l : Looks src c d) where
 -- the token that was looked at is a mark, or is not
 module _ {src : List ℕ} {c d : Cursor} {k : Place} {w : Word} (s : Saw src c d k w) (m : Mark) where
   numbers : is_mark m w ≡ eqb (kind_of d.token) (place_of m)
-  numbers = is_mark_lem m w ∙ ap (λ (n : ℕ). eqb n (place_of m)) (sym (known src d.token w s.means).0)
+  numbers = is_mark_lem m w ∙ ap (λ (n : ℕ). eqb n (place_of m)) (sym (known src d.token w s.means))
 
   pub it_is : d.token ≡ token_of m → is_mark m w ≡ true
   it_is e = numbers ∙ eq-eqb _ _ (ap kind_of e ∙ kind_of_token m)

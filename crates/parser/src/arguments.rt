@@ -1,7 +1,8 @@
 // Lists of expressions, in a call or a `write`.
 ghost use Rattle.std.specs.Prelude.{◌+◌, ◌≤◌};
-ghost use Rattle.parser.specs.Arguments.{Argues};
+ghost use Rattle.tree.specs.Kinds.{no_of};
 ghost use Rattle.parser.specs.Answer.{node_of};
+ghost use Rattle.parser.specs.Arguments.{Argues};
 ghost use Rattle.parser.specs.Meets.{Room};
 
 use crate::expressions::parse_exp;
@@ -9,13 +10,14 @@ use crate::lists::end_list;
 use crate::see::see;
 use lexer::{Cursor, Token};
 use numbers::refusal::Refusal;
+use tree::Kind;
 
 // exp {`,` exp} `)`: members of the node at `used`, which has `before` of them up to `from` already.
 pub fn parse_exps(
     text: &[u8],
     tree: &mut [u32],
     used: usize,
-    kind: u32,
+    kind: Kind,
     before: usize,
     from: usize,
     depth: usize,
@@ -23,7 +25,7 @@ pub fn parse_exps(
 ) -> Result<(usize, Cursor), Refusal>
     requires room { Room text.now tree.old from 8 cur }
     requires used_bound { (used + 4 ≤ from) × (before ≤ from) }
-    ensures { Argues text.now depth used kind before from tree.old tree.new cur (node_of result) }
+    ensures { Argues text.now depth used (no_of kind) before from tree.old tree.new cur (node_of result) }
 {
     let mut end = from;
     let mut count = before;
@@ -33,9 +35,9 @@ pub fn parse_exps(
         end = e;
         count += 1;
         let f = see(text, d)?;
-        if f.token != Token::Comma {
+        let Token::Comma = f.token else {
             return end_list(text, tree, used, kind, Token::ParR, count, end, f);
-        }
+        };
         c = f.take();
     }
 }

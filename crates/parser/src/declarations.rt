@@ -15,6 +15,7 @@ use crate::nodes::seal;
 use crate::see::{see, want};
 use lexer::{Cursor, Token};
 use numbers::refusal::Refusal;
+use tree::Kind;
 
 // name `:=` number
 pub fn parse_const(
@@ -29,7 +30,7 @@ pub fn parse_const(
     let (named, c) = parse_id(text, tree, used + tree::HEADER, cur)?;
     let d = want(text, c, Token::EqSign)?;
     let (end, e) = parse_integer(text, tree, named, d)?;
-    seal(tree, used, tree::CONSTANT, 0, 2, end);
+    seal(tree, used, Kind::Constant, 0, 2, end);
     Ok((end, e))
 }
 
@@ -51,9 +52,9 @@ pub fn parse_consts(
         end = e;
         count += 1;
         let f = see(text, d)?;
-        if f.token != Token::Comma {
-            return end_list(text, tree, used, tree::LIST, Token::Semicolon, count, end, f);
-        }
+        let Token::Comma = f.token else {
+            return end_list(text, tree, used, Kind::List, Token::Semicolon, count, end, f);
+        };
         c = f.take();
     }
 }
@@ -69,10 +70,10 @@ pub fn parse_const_decl(
     ensures { Reads (λ cs. only (consts_node cs)) text.now tree.old used tree.new (λ n. const_part text.now n) (8 * left cur + 1) 0 4 cur (node_of result) }
 {
     let c = see(text, cur)?;
-    if c.token == Token::Const {
-        return parse_consts(text, tree, used, c.take());
+    match c.token {
+        Token::Const => parse_consts(text, tree, used, c.take()),
+        _ => Ok((tree::push(tree, used, Kind::List, 0, 0, 0), c)),
     }
-    Ok((tree::push(tree, used, tree::LIST, 0, 0, 0), c))
 }
 
 // [`var` names `;`]
@@ -86,10 +87,10 @@ pub fn parse_var_decl(
     ensures { Reads (λ ns. only (names_node ns)) text.now tree.old used tree.new (λ n. var_part text.now n) (8 * left cur + 1) 0 4 cur (node_of result) }
 {
     let c = see(text, cur)?;
-    if c.token == Token::Var {
-        return parse_ids(text, tree, used, tree::LIST, Token::Semicolon, c.take());
+    match c.token {
+        Token::Var => parse_ids(text, tree, used, Kind::List, Token::Semicolon, c.take()),
+        _ => Ok((tree::push(tree, used, Kind::List, 0, 0, 0), c)),
     }
-    Ok((tree::push(tree, used, tree::LIST, 0, 0, 0), c))
 }
 
 // [names] `)`
@@ -103,10 +104,10 @@ pub fn parse_args(
     ensures { Reads (λ ns. only (names_node ns)) text.now tree.old used tree.new (λ n. arg_part text.now n) (8 * left cur + 1) 8 0 cur (node_of result) }
 {
     let c = see(text, cur)?;
-    if c.token != Token::ParR {
-        return parse_ids(text, tree, used, tree::LIST, Token::ParR, c);
+    match c.token {
+        Token::ParR => Ok((tree::push(tree, used, Kind::List, 0, 0, 0), c.take())),
+        _ => parse_ids(text, tree, used, Kind::List, Token::ParR, c),
     }
-    Ok((tree::push(tree, used, tree::LIST, 0, 0, 0), c.take()))
 }
 
 // The constants and the variables of a block: two nodes.

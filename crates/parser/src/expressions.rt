@@ -1,49 +1,42 @@
 // Expressions, terms and factors. `used` is where the node goes, `op` how it joins what stands before it, `depth` how many constructs are open.
-ghost use Rattle.std.specs.Prelude.{◌≡◌, ◌+◌, ◌*◌};
+ghost use Rattle.std.specs.Prelude.{◌+◌, ◌*◌};
+ghost use Rattle.numbers.specs.Arithmetic.{add, sub, mul, div};
+ghost use Rattle.lexer.specs.Marks.{plus_sign, minus_sign, times_sign, divide_sign};
 ghost use Rattle.lexer.specs.Stands.{left};
 ghost use Rattle.grammar.specs.Grammar.{exp, term, factor};
 ghost use Rattle.parser.specs.Parts.{operand, negated, signed, bracketed};
 ghost use Rattle.parser.specs.Answer.{node_of};
 ghost use Rattle.parser.specs.Meets.{Room, Reads};
-ghost use Rattle.parser.specs.See.{operator_of};
+ghost use Rattle.parser.specs.See.{Joins};
 
-use crate::nodes::seal;
+use crate::nodes::{FIRST, joined, seal};
 use crate::see::{see, want};
 use lexer::{Cursor, Token};
-use numbers::refusal::Refusal;
-
+use numbers::arithmetic::Arith;
 use numbers::limits::MAX_OPEN;
-// How the member after an operator joins what stands before it; 0 for what is no such operator.
-pub const NO_OP: u32 = 0;
+use numbers::refusal::Refusal;
+use tree::Kind;
 
-const ADD: u32 = 1;
-
-const SUB: u32 = 2;
-
-const MUL: u32 = 3;
-
-const DIV: u32 = 4;
-
-fn sum_op(m: Token) -> u32
+// How the term after a sign joins what stands before it.
+fn sum_op(t: Token) -> Option<Arith>
+    ensures { Joins plus_sign add minus_sign sub t result }
 {
-    if m == Token::Add {
-        return ADD;
+    match t {
+        Token::Add => Some(Arith::Add),
+        Token::Sub => Some(Arith::Sub),
+        _ => None,
     }
-    if m == Token::Sub {
-        return SUB;
-    }
-    NO_OP
 }
 
-fn product_op(m: Token) -> u32
+// How the factor after a sign joins what stands before it.
+fn product_op(t: Token) -> Option<Arith>
+    ensures { Joins times_sign mul divide_sign div t result }
 {
-    if m == Token::Mul {
-        return MUL;
+    match t {
+        Token::Mul => Some(Arith::Mul),
+        Token::Div => Some(Arith::Div),
+        _ => None,
     }
-    if m == Token::Div {
-        return DIV;
-    }
-    NO_OP
 }
 
 // [+ or -] term {+ or - term}
@@ -52,18 +45,15 @@ pub fn parse_exp(text: &[u8], tree: &mut [u32], used: usize, depth: usize, cur: 
     requires { Room text.now tree.old used 8 cur }
     ensures { Reads (operand 0) text.now tree.old used tree.new (λ n. exp text.now n depth) (8 * left cur + 3) 0 0 cur (node_of result) }
 {
-    let (first, start) = parse_signed(text, tree, used + tree::HEADER, depth, cur)?;
-    let mut end = first;
+    let (mut end, mut c) = parse_signed(text, tree, used + tree::HEADER, depth, cur)?;
     let mut count = 1;
-    let mut c = start;
     loop {
         let d = see(text, c)?;
-        let op = sum_op(d.token);
-        if op == NO_OP {
-            seal(tree, used, tree::CHAIN, NO_OP, count, end);
+        let Some(sign) = sum_op(d.token) else {
+            seal(tree, used, Kind::Chain, FIRST, count, end);
             return Ok((end, d));
-        }
-        let (e, f) = parse_term(text, tree, end, op, depth, d.take())?;
+        };
+        let (e, f) = parse_term(text, tree, end, joined(sign), depth, d.take())?;
         end = e;
         count += 1;
         c = f;
@@ -77,14 +67,11 @@ pub fn parse_signed(text: &[u8], tree: &mut [u32], used: usize, depth: usize, cu
     ensures { Reads (operand 0) text.now tree.old used tree.new (λ n. signed text.now n depth) (8 * left cur + 2) 4 0 cur (node_of result) }
 {
     let c = see(text, cur)?;
-    let m = c.token;
-    if m == Token::Add {
-        return parse_term(text, tree, used, NO_OP, depth, c.take());
+    match c.token {
+        Token::Add => parse_term(text, tree, used, FIRST, depth, c.take()),
+        Token::Sub => parse_negated(text, tree, used, depth, c.take()),
+        _ => parse_term(text, tree, used, FIRST, depth, c),
     }
-    if m == Token::Sub {
-        return parse_negated(text, tree, used, depth, c.take());
-    }
-    parse_term(text, tree, used, NO_OP, depth, c)
 }
 
 // The first term after a leading minus, which negates it whole.
@@ -99,8 +86,8 @@ pub fn parse_negated(
     requires { Room text.now tree.old used 8 cur }
     ensures { Reads (operand 0) text.now tree.old used tree.new (λ n. negated text.now n depth) (8 * left cur + 2) 0 0 cur (node_of result) }
 {
-    let (end, c) = parse_term(text, tree, used + tree::HEADER, NO_OP, depth, cur)?;
-    seal(tree, used, tree::NEG, NO_OP, 1, end);
+    let (end, c) = parse_term(text, tree, used + tree::HEADER, FIRST, depth, cur)?;
+    seal(tree, used, Kind::Neg, FIRST, 1, end);
     Ok((end, c))
 }
 
@@ -117,18 +104,15 @@ pub fn parse_term(
     requires { Room text.now tree.old used 4 cur }
     ensures { Reads (operand op) text.now tree.old used tree.new (λ n. term text.now n depth) (8 * left cur + 2) 4 0 cur (node_of result) }
 {
-    let (first, start) = parse_factor(text, tree, used + tree::HEADER, NO_OP, depth, cur)?;
-    let mut end = first;
+    let (mut end, mut c) = parse_factor(text, tree, used + tree::HEADER, FIRST, depth, cur)?;
     let mut count = 1;
-    let mut c = start;
     loop {
         let d = see(text, c)?;
-        let next = product_op(d.token);
-        if next == NO_OP {
-            seal(tree, used, tree::CHAIN, op, count, end);
+        let Some(sign) = product_op(d.token) else {
+            seal(tree, used, Kind::Chain, op, count, end);
             return Ok((end, d));
-        }
-        let (e, f) = parse_factor(text, tree, end, next, depth, d.take())?;
+        };
+        let (e, f) = parse_factor(text, tree, end, joined(sign), depth, d.take())?;
         end = e;
         count += 1;
         c = f;
@@ -149,11 +133,8 @@ pub fn parse_factor(
     ensures { Reads (operand op) text.now tree.old used tree.new (λ n. factor text.now n depth) (8 * left cur + 1) 8 0 cur (node_of result) }
 {
     let c = see(text, cur)?;
-    let t = c.token;
-    match t {
-        Token::Identifier(at, n) => {
-            Ok((tree::push_name(tree, used, op, at, n), c.take()))
-        }
+    match c.token {
+        Token::Identifier(at, n) => Ok((tree::push_name(tree, used, op, at, n), c.take())),
         Token::Integer(v) => Ok((tree::push_number(tree, used, op, v as i64), c.take())),
         Token::ParL => {
             if depth < MAX_OPEN {
@@ -181,6 +162,6 @@ pub fn parse_brackets(
 {
     let (end, c) = parse_exp(text, tree, used + tree::HEADER, depth, cur)?;
     let d = want(text, c, Token::ParR)?;
-    seal(tree, used, tree::BRACKETS, op, 1, end);
+    seal(tree, used, Kind::Brackets, op, 1, end);
     Ok((end, d))
 }

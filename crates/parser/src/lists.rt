@@ -4,6 +4,7 @@ ghost use Rattle.numbers.specs.Limits.{tree_places};
 ghost use Rattle.lexer.specs.Marks.{Mark};
 ghost use Rattle.lexer.specs.Spelling.{token_of};
 ghost use Rattle.lexer.specs.Stands.{left};
+ghost use Rattle.tree.specs.Kinds.{no_of};
 ghost use Rattle.tree.specs.Layout.{NodeKind, node_no, literal, branch};
 ghost use Rattle.tree.specs.Nodes.{name_node, list_nodes};
 ghost use Rattle.grammar.specs.Reader.{want_name, want_number};
@@ -16,6 +17,7 @@ use crate::nodes::seal;
 use crate::see::{see, want};
 use lexer::{Cursor, Token};
 use numbers::refusal::Refusal;
+use tree::Kind;
 
 // A name that has to be there.
 pub fn parse_id(
@@ -56,7 +58,7 @@ pub fn end_list(
     text: &[u8],
     tree: &mut [u32],
     used: usize,
-    kind: u32,
+    kind: Kind,
     close: Token,
     count: usize,
     end: usize,
@@ -64,7 +66,7 @@ pub fn end_list(
 ) -> Result<(usize, Cursor), Refusal>
     requires used_bound { (used + 4 ≤ end) × (end ≤ length tree.old) }
     requires count_le_end { (count ≤ end) × (length tree.old ≤ tree_places) }
-    ensures { (m : Mark) → close ≡ token_of m → Ends text.now m used kind count end tree.old tree.new cur (node_of result) }
+    ensures { (m : Mark) → close ≡ token_of m → Ends text.now m used (no_of kind) count end tree.old tree.new cur (node_of result) }
 {
     let c = want(text, cur, close)?;
     seal(tree, used, kind, 0, count, end);
@@ -76,12 +78,12 @@ pub fn parse_ids(
     text: &[u8],
     tree: &mut [u32],
     used: usize,
-    kind: u32,
+    kind: Kind,
     close: Token,
     cur: Cursor,
 ) -> Result<(usize, Cursor), Refusal>
     requires { Room text.now tree.old used 4 cur }
-    ensures { (k : NodeKind) → kind ≡ node_no k → (m : Mark) → close ≡ token_of m → Reads (λ ns. only (branch k 0 (list_nodes name_node ns))) text.now tree.old used tree.new (closed text.now m (want_name text.now)) (8 * left cur + 1) 8 0 cur (node_of result) }
+    ensures { (k : NodeKind) → no_of kind ≡ node_no k → (m : Mark) → close ≡ token_of m → Reads (λ ns. only (branch k 0 (list_nodes name_node ns))) text.now tree.old used tree.new (closed text.now m (want_name text.now)) (8 * left cur + 1) 8 0 cur (node_of result) }
 {
     let mut end = used + tree::HEADER;
     let mut count = 0;
@@ -91,9 +93,9 @@ pub fn parse_ids(
         end = e;
         count += 1;
         let f = see(text, d)?;
-        if f.token != Token::Comma {
+        let Token::Comma = f.token else {
             return end_list(text, tree, used, kind, close, count, end, f);
-        }
+        };
         c = f.take();
     }
 }

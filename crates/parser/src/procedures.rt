@@ -16,6 +16,7 @@ use crate::statements::parse_body;
 use lexer::{Cursor, Token};
 use numbers::limits::MAX_OPEN;
 use numbers::refusal::Refusal;
+use tree::Kind;
 
 // `procedure` name `(` [names] `)` `;`: two nodes
 pub fn parse_proc_head(
@@ -62,7 +63,7 @@ pub fn parse_proc(
     let Some(end) = later else {
         return Ok((None, g));
     };
-    seal(tree, used, tree::PROCEDURE, 0, 7, end);
+    seal(tree, used, Kind::Procedure, 0, 7, end);
     Ok((Some(end), g))
 }
 
@@ -79,11 +80,10 @@ pub fn parse_later(
     ensures { Tries (λ p. only (procs_node p)) text.now tree.old used tree.new (λ n. later_of text.now n depth) (8 * left cur + 1) 0 4 cur (try_of result) }
 {
     let c = see(text, cur)?;
-    if c.token == Token::Semicolon {
-        return parse_proc(text, tree, used, depth, c.take());
+    match c.token {
+        Token::Semicolon => parse_proc(text, tree, used, depth, c.take()),
+        _ => Ok((Some(tree::push(tree, used, Kind::NoProcedures, 0, 0, 0)), c)),
     }
-    let end = tree::push(tree, used, tree::NO_PROCEDURES, 0, 0, 0);
-    Ok((Some(end), c))
 }
 
 // The constants, the variables and the procedure of a block: three nodes.
@@ -115,13 +115,13 @@ pub fn parse_inner(
     ensures { Reads (λ p. only (procs_node p)) text.now tree.old used tree.new (λ n. inner_of text.now n depth) (8 * left cur + 2) 0 4 cur (node_of result) }
 {
     let c = see(text, cur)?;
-    if c.token != Token::Procedure {
-        return Ok((tree::push(tree, used, tree::NO_PROCEDURES, 0, 0, 0), c));
-    }
+    let Token::Procedure = c.token else {
+        return Ok((tree::push(tree, used, Kind::NoProcedures, 0, 0, 0), c));
+    };
     let (procedures, d) = parse_proc(text, tree, used, depth, c)?;
     match procedures {
         Some(end) => Ok((end, d)),
-        None => Ok((tree::push(tree, used, tree::NO_PROCEDURES, 0, 0, 0), d)),
+        None => Ok((tree::push(tree, used, Kind::NoProcedures, 0, 0, 0), d)),
     }
 }
 
@@ -140,7 +140,7 @@ pub fn parse_block(
     let Some(end) = body else {
         return Ok((None, d));
     };
-    seal(tree, used, tree::BLOCK, 0, 4, end);
+    seal(tree, used, Kind::Block, 0, 4, end);
     Ok((Some(end), d))
 }
 

@@ -28,7 +28,7 @@ pub fn want(text: &[u8], cur: Cursor, mark: Token) -> Result<Cursor, Refusal>
     ensures { (k : Mark) → mark ≡ token_of k → Wants text.now k cur result }
 {
     let c = see(text, cur)?;
-    if c.token == mark {
+    if c.token.is(mark) {
         Ok(c.take())
     } else {
         Err(Refusal::TokenMissing)

@@ -13,6 +13,7 @@ use crate::nodes::seal;
 use crate::see::{see, want};
 use lexer::{Cursor, Token};
 use numbers::refusal::Refusal;
+use tree::Kind;
 
 // `:=` exp, after the name
 pub fn parse_assign(
@@ -31,7 +32,7 @@ pub fn parse_assign(
     let c = want(text, cur, Token::EqSign)?;
     let named = tree::push_name(tree, used + tree::HEADER, 0, at, len);
     let (end, d) = parse_exp(text, tree, named, depth, c)?;
-    seal(tree, used, tree::ASSIGN, 0, 2, end);
+    seal(tree, used, Kind::Assign, 0, 2, end);
     Ok((Some(end), d))
 }
 
@@ -49,11 +50,11 @@ pub fn parse_call(
     let (named, c) = parse_id(text, tree, used + tree::HEADER, cur)?;
     let d = want(text, c, Token::ParL)?;
     let e = see(text, d)?;
-    if e.token == Token::ParR {
-        seal(tree, used, tree::CALL, 0, 1, named);
+    if let Token::ParR = e.token {
+        seal(tree, used, Kind::Call, 0, 1, named);
         return Ok((Some(named), e.take()));
     }
-    let (end, f) = parse_exps(text, tree, used, tree::CALL, 1, named, depth, e)?;
+    let (end, f) = parse_exps(text, tree, used, Kind::Call, 1, named, depth, e)?;
     Ok((Some(end), f))
 }
 
@@ -69,7 +70,7 @@ pub fn parse_read(
     ensures { Tries statement text.now tree.old used tree.new (λ n. reading text.now n depth) (8 * left cur + 3) 8 0 cur (try_of result) }
 {
     let c = want(text, cur, Token::ParL)?;
-    let (end, d) = parse_ids(text, tree, used, tree::READ, Token::ParR, c)?;
+    let (end, d) = parse_ids(text, tree, used, Kind::Read, Token::ParR, c)?;
     Ok((Some(end), d))
 }
 
@@ -86,6 +87,6 @@ pub fn parse_write(
 {
     let c = want(text, cur, Token::ParL)?;
     let start = used + tree::HEADER;
-    let (end, d) = parse_exps(text, tree, used, tree::WRITE, 0, start, depth, c)?;
+    let (end, d) = parse_exps(text, tree, used, Kind::Write, 0, start, depth, c)?;
     Ok((Some(end), d))
 }

@@ -13,6 +13,7 @@ use crate::simple::{parse_assign, parse_call, parse_read, parse_write};
 use lexer::{Cursor, Token};
 use numbers::limits::MAX_OPEN;
 use numbers::refusal::Refusal;
+use tree::Kind;
 
 // A statement place: the test for one construct too many comes before the token is judged, and a token that starts no statement yields nothing.
 #[cycle(parse_body_parse_else_part_parse_if_parse_statement_parse_statements_parse_while_read_on)]
@@ -60,7 +61,7 @@ pub fn parse_while(
     let Some(end) = repeated else {
         return Ok((None, e));
     };
-    seal(tree, used, tree::WHILE, 0, 2, end);
+    seal(tree, used, Kind::While, 0, 2, end);
     Ok((Some(end), e))
 }
 
@@ -87,11 +88,11 @@ pub fn parse_if(
     let (else_part, g) = parse_else_part(text, tree, done, depth, e)?;
     match else_part {
         Some(end) => {
-            seal(tree, used, tree::IF, 0, 3, end);
+            seal(tree, used, Kind::If, 0, 3, end);
             Ok((Some(end), g))
         }
         None => {
-            seal(tree, used, tree::IF, 0, 2, done);
+            seal(tree, used, Kind::If, 0, 2, done);
             Ok((Some(done), g))
         }
     }
@@ -110,10 +111,10 @@ pub fn parse_else_part(
     ensures { Tries statement text.now tree.old used tree.new (λ n. else_part text.now n depth) (8 * left cur + 3) 8 0 cur (try_of result) }
 {
     let c = see(text, cur)?;
-    if c.token != Token::Else {
-        return Ok((None, c));
+    match c.token {
+        Token::Else => parse_statement(text, tree, used, depth, c.take()),
+        _ => Ok((None, c)),
     }
-    parse_statement(text, tree, used, depth, c.take())
 }
 
 // `begin` statement {`;` statement} `end`; with a member that yields nothing the `end` is left unread
@@ -161,10 +162,10 @@ pub fn parse_statements(
         end = e;
         count += 1;
         let f = see(text, d)?;
-        if f.token != Token::Semicolon {
-            seal(tree, used, tree::BODY, 0, count, end);
+        let Token::Semicolon = f.token else {
+            seal(tree, used, Kind::Body, 0, count, end);
             return Ok((Some(end), f));
-        }
+        };
         c = f.take();
     }
 }
@@ -184,9 +185,9 @@ pub fn read_on(
     let mut c = cur;
     loop {
         let d = see(text, c)?;
-        if d.token != Token::Semicolon {
+        let Token::Semicolon = d.token else {
             return Ok(d);
-        }
+        };
         let (_, e) = parse_statement(text, tree, used, depth, d.take())?;
         c = e;
     }

@@ -1,8 +1,6 @@
 -- `declarations::parse_const_decl` meets its contract.
-use mathlib.Core.Path.{◌≡◌, refl}
+use mathlib.Core.Path.{refl}
 use native.Mathlib.Omega.{arith}
-use Rattle.std.proofs.Common.{rules}
-use Rattle.lexer.specs.declared.token.Token.TheVariants.{Const}
 use Rattle.tree.specs.Nodes.{const_node}
 use Rattle.parser.proofs.Answers.{refused, moved, same_left, room_taken, one_fewer}
 use Rattle.parser.proofs.Exits.{left_as}
@@ -16,13 +14,11 @@ returns-in_err-c c = rw (left_as c.from_residual.ensures) (refused (part_stop co
 pub parse_consts-requires : goal.parse_consts-requires
 parse_consts-requires c = room_taken c.requires c.in_ok-c.ensures refl c.take.ensures _ 8 (omega arith)
 
-pub returns-then-eq : goal.returns-then-eq
-returns-then-eq c =
-    let q : c.in_ok-c.c.token ≡ Const = search rules in
+pub returns-in-Const : goal.returns-in-Const
+returns-in-Const c =
     let f = one_fewer c.requires c.in_ok-c.ensures refl c.take.ensures in
-    owed {spare = 8} {debt = 0} _ 0 4 (moved _ (omega arith) (omega arith) (part_there const_node (const_whole _) c.in_ok-c.ensures refl c.take.ensures q) c.parse_consts.ensures) (omega arith)
+    owed {spare = 8} {debt = 0} _ 0 4 (moved _ (omega arith) (omega arith) (part_there const_node (const_whole _) c.in_ok-c.ensures refl c.take.ensures c.in-Const.is) c.parse_consts.ensures) (omega arith)
 
-pub returns : goal.returns
-returns c =
-    let q : c.in_ok-c.c.token ≡ Const → ⊥ = search rules in
-    part_none const_node (const_whole _) c.in_ok-c.ensures refl q (same_left c.requires c.in_ok-c.ensures refl) (omega (arith, c.requires.room)) c.push.ensures.0 c.push.ensures.1
+pub returns-in_default : goal.returns-in_default
+returns-in_default c =
+    part_none const_node (const_whole _) c.in_ok-c.ensures refl c.in_default.not-Const (same_left c.requires c.in_ok-c.ensures refl) (omega (arith, c.requires.room)) c.push.ensures.0 c.push.ensures.1

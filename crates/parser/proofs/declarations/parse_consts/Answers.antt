@@ -1,8 +1,6 @@
 -- `declarations::parse_consts` meets its contract.
-use mathlib.Core.Path.{◌≡◌, refl}
+use mathlib.Core.Path.{refl}
 use Prim.Native.Nat.{◌+◌}
-use Rattle.std.proofs.Common.{rules}
-use Rattle.lexer.specs.declared.token.Token.TheVariants.{Comma}
 use native.Mathlib.Omega.{arith}
 use Rattle.lexer.specs.Marks.{semicolon_sign}
 use Rattle.tree.specs.Layout.{list_kind}
@@ -48,16 +46,15 @@ end_list-requires c =
       count_le_end = (omega (arith, i.few), omega (arith, p.small));
     }
 
-pub returns-then-ne : goal.returns-then-ne
-returns-then-ne c =
+pub returns-in_default : goal.returns-in_default
+returns-in_default c =
     let g = grew c.in_ok-e.ensures refl in
     let i = c.loop-e.invariant in
     let p = going_room _ _ _ _ i (room_at c.requires refl _ 4 (omega arith)) in
     let a = room_after c.in_ok-e.ensures refl {t = 0} p c.parse_const.auto.tree (omega arith) in
     let o = same_left a c.in_ok-f.ensures refl in
-    let q : c.in_ok-f.f.token ≡ Comma → ⊥ = search rules in
     list_ended _ _ const_node semicolon_sign
-    (going_end _ _ _ _ i (comma_end _ _ const_node (λ k s. made c.in_ok-e.ensures refl 0 (omega arith) k s) c.in_ok-f.ensures refl q) refl)
+    (going_end _ _ _ _ i (comma_end _ _ const_node (λ k s. made c.in_ok-e.ensures refl 0 (omega arith) k s) c.in_ok-f.ensures refl c.in_default.not-Comma) refl)
     (omega (arith, g.above, i.above)) (omega (arith, g.fewer, i.fewer)) (omega (arith, g.room, i.room)) c.requires.place c.requires.stands _ (c.end_list.ensures semicolon_sign refl) list_kind refl
 
 pub loop-e-smaller : goal.loop-e-smaller
@@ -73,5 +70,4 @@ loop-e-preserved c =
     let b = room_at c.requires refl (c.args.used + 4) 4 (omega arith) in
     let p = going_room _ _ _ _ i b in
     let a = room_after c.in_ok-e.ensures refl {t = 0} p c.parse_const.auto.tree (omega arith) in
-    let q : c.in_ok-f.f.token ≡ Comma = search rules in
-    going_more _ _ _ _ i b (comma_turn _ _ const_node (λ k s. made c.in_ok-e.ensures refl 0 (omega arith) k s) c.in_ok-f.ensures refl q c.take-c.ensures (one_fewer a c.in_ok-f.ensures refl c.take-c.ensures) (grew c.in_ok-e.ensures refl)) c.parse_const.auto.tree
+    going_more _ _ _ _ i b (comma_turn _ _ const_node (λ k s. made c.in_ok-e.ensures refl 0 (omega arith) k s) c.in_ok-f.ensures refl c.in-Comma.is c.take-c.ensures (one_fewer a c.in_ok-f.ensures refl c.take-c.ensures) (grew c.in_ok-e.ensures refl)) c.parse_const.auto.tree

@@ -1,9 +1,7 @@
 -- The proof of the cycle of calls of the readers of procedures. Each member's measure is eight times the tokens left, and its rank.
-use mathlib.Core.Path.{◌≡◌, refl}
+use mathlib.Core.Path.{refl}
 use native.Mathlib.Numerals.{add-one}
 use native.Mathlib.Omega.{arith}
-use Rattle.std.proofs.Common.{rules}
-use Rattle.lexer.specs.declared.token.Token.TheVariants.{Procedure, Semicolon}
 use Rattle.parser.proofs.Answers.{refused, grew, room_after, moved, room_at, room_seen, same_left, room_taken, one_fewer}
 use Rattle.parser.proofs.Exits.{left_as, refuses}
 use Rattle.parser.proofs.Tries.{none_at, some_at, quiet, quiet_left, room_quiet, nothing}
@@ -31,10 +29,9 @@ pub parse_inner-returns-in_err-c : goal.parse_inner-returns-in_err-c
 parse_inner-returns-in_err-c t c =
     rw (left_as c.from_residual.ensures) (refused (inner_stop _ _ c.in_err-c.ensures refl))
 
-pub parse_inner-returns-then-ne : goal.parse_inner-returns-then-ne
-parse_inner-returns-then-ne t c =
-    let i : c.in_ok-c.c.token ≡ Procedure → ⊥ = search rules in
-    inner_none _ _ c.in_ok-c.ensures refl i (same_left c.requires c.in_ok-c.ensures refl) (omega (arith, c.requires.room)) c.push.ensures.0 c.push.ensures.1
+pub parse_inner-returns-in_default : goal.parse_inner-returns-in_default
+parse_inner-returns-in_default t c =
+    inner_none _ _ c.in_ok-c.ensures refl c.in_default.not-Procedure (same_left c.requires c.in_ok-c.ensures refl) (omega (arith, c.requires.room)) c.push.ensures.0 c.push.ensures.1
 
 pub parse_inner-parse_proc-requires : goal.parse_inner-parse_proc-requires
 parse_inner-parse_proc-requires t c =
@@ -42,18 +39,15 @@ parse_inner-parse_proc-requires t c =
 
 pub parse_inner-returns-in_err-procedures : goal.parse_inner-returns-in_err-procedures
 parse_inner-returns-in_err-procedures t c =
-    let i : c.in_ok-c.c.token ≡ Procedure = search rules in
-    rw (left_as c.from_residual-in_err-procedures.ensures) (refused (inner_in _ _ c.in_ok-c.ensures refl i (refuses c.in_err-procedures.ensures) (same_left c.requires c.in_ok-c.ensures refl)))
+    rw (left_as c.from_residual-in_err-procedures.ensures) (refused (inner_in _ _ c.in_ok-c.ensures refl c.in-Procedure.is (refuses c.in_err-procedures.ensures) (same_left c.requires c.in_ok-c.ensures refl)))
 
 pub parse_inner-returns-in-Some : goal.parse_inner-returns-in-Some
 parse_inner-returns-in-Some t c =
-    let i : c.in_ok-c.c.token ≡ Procedure = search rules in
-    inner_up _ _ c.in_ok-c.ensures refl i (same_left c.requires c.in_ok-c.ensures refl) c.in_ok-procedures.ensures (some_at c.in-Some.is)
+    inner_up _ _ c.in_ok-c.ensures refl c.in-Procedure.is (same_left c.requires c.in_ok-c.ensures refl) c.in_ok-procedures.ensures (some_at c.in-Some.is)
 
 pub parse_inner-returns-in-None : goal.parse_inner-returns-in-None
 parse_inner-returns-in-None t c =
-    let i : c.in_ok-c.c.token ≡ Procedure = search rules in
-    inner_absent _ _ c.in_ok-c.ensures refl i (same_left c.requires c.in_ok-c.ensures refl) c.in_ok-procedures.ensures (none_at c.in-None.is) (omega (arith, c.requires.room, c.parse_proc.auto.tree)) c.push-in-None.ensures.0 c.push-in-None.ensures.1
+    inner_absent _ _ c.in_ok-c.ensures refl c.in-Procedure.is (same_left c.requires c.in_ok-c.ensures refl) c.in_ok-procedures.ensures (none_at c.in-None.is) (omega (arith, c.requires.room, c.parse_proc.auto.tree)) c.push-in-None.ensures.0 c.push-in-None.ensures.1
 
 pub parse_later-returns-in_err-c : goal.parse_later-returns-in_err-c
 parse_later-returns-in_err-c t c =
@@ -63,16 +57,14 @@ pub parse_later-parse_proc-requires : goal.parse_later-parse_proc-requires
 parse_later-parse_proc-requires t c =
     (omega (arith, c.decreases, one_fewer c.requires c.in_ok-c.ensures refl c.take.ensures), room_taken c.requires c.in_ok-c.ensures refl c.take.ensures _ 4 (omega arith))
 
-pub parse_later-returns-then-eq : goal.parse_later-returns-then-eq
-parse_later-returns-then-eq t c =
-    let i : c.in_ok-c.c.token ≡ Semicolon = search rules in
+pub parse_later-returns-in-Semicolon : goal.parse_later-returns-in-Semicolon
+parse_later-returns-in-Semicolon t c =
     let f = one_fewer c.requires c.in_ok-c.ensures refl c.take.ensures in
-    moved _ (omega arith) (omega arith) (later_there _ _ c.in_ok-c.ensures refl c.take.ensures i) c.parse_proc.ensures
+    moved _ (omega arith) (omega arith) (later_there _ _ c.in_ok-c.ensures refl c.take.ensures c.in-Semicolon.is) c.parse_proc.ensures
 
-pub parse_later-returns : goal.parse_later-returns
-parse_later-returns t c =
-    let i : c.in_ok-c.c.token ≡ Semicolon → ⊥ = search rules in
-    later_none _ _ c.in_ok-c.ensures refl i (same_left c.requires c.in_ok-c.ensures refl) (omega (arith, c.requires.room)) c.push-end.ensures.0 c.push-end.ensures.1
+pub parse_later-returns-in_default : goal.parse_later-returns-in_default
+parse_later-returns-in_default t c =
+    later_none _ _ c.in_ok-c.ensures refl c.in_default.not-Semicolon (same_left c.requires c.in_ok-c.ensures refl) (omega (arith, c.requires.room)) c.push.ensures.0 c.push.ensures.1
 
 pub parse_proc-returns-then-depth-ge-MAX_OPEN : goal.parse_proc-returns-then-depth-ge-MAX_OPEN
 parse_proc-returns-then-depth-ge-MAX_OPEN t c =

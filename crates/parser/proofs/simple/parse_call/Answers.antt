@@ -1,9 +1,7 @@
 -- `simple::parse_call` meets its contract.
-use mathlib.Core.Path.{◌≡◌, refl}
+use mathlib.Core.Path.{refl}
 use native.Mathlib.Omega.{arith}
-use Rattle.std.proofs.Common.{rules}
 use Rattle.lexer.specs.Marks.{open_sign}
-use Rattle.lexer.specs.declared.token.Token.TheVariants.{ParR}
 use Rattle.parser.proofs.Answers.{refused, grew, room_at, room_after, room_took, room_seen, same_left, one_fewer, wanted_fewer}
 use Rattle.parser.proofs.Exits.{left_as, refuses}
 use Rattle.parser.proofs.Plain.{called_refused, called_stop, called_look, called_none, called_some}
@@ -28,12 +26,11 @@ seal-requires c =
       count_le_end = (omega (arith, g.above), omega (arith, c.requires.small));
     }
 
-pub returns-then-eq : goal.returns-then-eq
-returns-then-eq c =
-    let i : c.in_ok-e.e.token ≡ ParR = search rules in
+pub returns-in-ParR : goal.returns-in-ParR
+returns-in-ParR c =
     let p = room_after c.in_ok-named.ensures refl {t = 0} c.requires c.parse_id.auto.tree (omega arith) in
     let q = room_took p (c.in_ok-d.ensures open_sign refl) refl c.in_ok-named.named 8 (omega arith) in
-    called_none _ _ _ c.in_ok-named.ensures refl (c.in_ok-d.ensures open_sign refl) refl c.in_ok-e.ensures refl (wanted_fewer p (c.in_ok-d.ensures open_sign refl) refl) i c.take.ensures (one_fewer q c.in_ok-e.ensures refl c.take.ensures) c.seal.ensures
+    called_none _ _ _ c.in_ok-named.ensures refl (c.in_ok-d.ensures open_sign refl) refl c.in_ok-e.ensures refl (wanted_fewer p (c.in_ok-d.ensures open_sign refl) refl) c.in-ParR.is c.take.ensures (one_fewer q c.in_ok-e.ensures refl c.take.ensures) c.seal.ensures
 
 pub parse_exps-requires : goal.parse_exps-requires
 parse_exps-requires c =
@@ -47,15 +44,13 @@ parse_exps-requires c =
 
 pub returns-in_err-end : goal.returns-in_err-end
 returns-in_err-end c =
-    let i : c.in_ok-e.e.token ≡ ParR → ⊥ = search rules in
     let p = room_after c.in_ok-named.ensures refl {t = 0} c.requires c.parse_id.auto.tree (omega arith) in
     let q = room_took p (c.in_ok-d.ensures open_sign refl) refl c.in_ok-named.named 8 (omega arith) in
     rw (left_as c.from_residual-in_err-end.ensures)
-    (called_some _ _ _ c.in_ok-named.ensures refl (c.in_ok-d.ensures open_sign refl) refl c.in_ok-e.ensures refl (wanted_fewer p (c.in_ok-d.ensures open_sign refl) refl) i (same_left q c.in_ok-e.ensures refl) c.requires _ c.in_err-end.ensures)
+    (called_some _ _ _ c.in_ok-named.ensures refl (c.in_ok-d.ensures open_sign refl) refl c.in_ok-e.ensures refl (wanted_fewer p (c.in_ok-d.ensures open_sign refl) refl) c.in_default.not-ParR (same_left q c.in_ok-e.ensures refl) c.requires _ c.in_err-end.ensures)
 
 pub returns : goal.returns
 returns c =
-    let i : c.in_ok-e.e.token ≡ ParR → ⊥ = search rules in
     let p = room_after c.in_ok-named.ensures refl {t = 0} c.requires c.parse_id.auto.tree (omega arith) in
     let q = room_took p (c.in_ok-d.ensures open_sign refl) refl c.in_ok-named.named 8 (omega arith) in
-    called_some _ _ _ c.in_ok-named.ensures refl (c.in_ok-d.ensures open_sign refl) refl c.in_ok-e.ensures refl (wanted_fewer p (c.in_ok-d.ensures open_sign refl) refl) i (same_left q c.in_ok-e.ensures refl) c.requires _ c.in_ok-end.ensures
+    called_some _ _ _ c.in_ok-named.ensures refl (c.in_ok-d.ensures open_sign refl) refl c.in_ok-e.ensures refl (wanted_fewer p (c.in_ok-d.ensures open_sign refl) refl) c.in_default.not-ParR (same_left q c.in_ok-e.ensures refl) c.requires _ c.in_ok-end.ensures

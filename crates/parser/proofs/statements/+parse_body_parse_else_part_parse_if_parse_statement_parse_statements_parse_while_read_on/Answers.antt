@@ -1,10 +1,8 @@
 -- The proof of the cycle of calls of the readers of statements. Each member's measure is eight times the tokens left, and its rank.
-use mathlib.Core.Path.{◌≡◌, refl}
+use mathlib.Core.Path.{refl}
 use Prim.Native.Nat.{◌+◌}
 use native.Mathlib.Omega.{arith}
-use Rattle.std.proofs.Common.{rules}
 use Rattle.lexer.specs.Marks.{then_word, do_word, begin_word, end_word}
-use Rattle.lexer.specs.declared.token.Token.TheVariants.{Else, Semicolon}
 use Rattle.parser.proofs.Seeing.{saw}
 use Rattle.parser.proofs.Answers.{refused, grew, room_after, moved, room_at, room_seen, same_left, room_taken, one_fewer, room_took, wanted_fewer}
 use Rattle.parser.proofs.Exits.{left_as, refuses}
@@ -48,20 +46,18 @@ pub parse_else_part-returns-in_err-c : goal.parse_else_part-returns-in_err-c
 parse_else_part-returns-in_err-c t c =
     rw (left_as c.from_residual.ensures) (refused (else_refused _ _ c.in_err-c.ensures refl))
 
-pub parse_else_part-returns-then-ne : goal.parse_else_part-returns-then-ne
-parse_else_part-returns-then-ne t c =
-    let q : c.in_ok-c.c.token ≡ Else → ⊥ = search rules in
-    else_absent _ _ c.in_ok-c.ensures refl q c.requires
+pub parse_else_part-returns-in_default : goal.parse_else_part-returns-in_default
+parse_else_part-returns-in_default t c =
+    else_absent _ _ c.in_ok-c.ensures refl c.in_default.not-Else c.requires
 
 pub parse_else_part-parse_statement-requires : goal.parse_else_part-parse_statement-requires
 parse_else_part-parse_statement-requires t c =
     (omega (arith, c.decreases, one_fewer c.requires c.in_ok-c.ensures refl c.take.ensures), room_taken c.requires c.in_ok-c.ensures refl c.take.ensures _ 4 (omega arith))
 
-pub parse_else_part-returns : goal.parse_else_part-returns
-parse_else_part-returns t c =
-    let q : c.in_ok-c.c.token ≡ Else = search rules in
+pub parse_else_part-returns-in-Else : goal.parse_else_part-returns-in-Else
+parse_else_part-returns-in-Else t c =
     let f = one_fewer c.requires c.in_ok-c.ensures refl c.take.ensures in
-    moved _ (omega arith) (omega arith) (else_there _ _ c.in_ok-c.ensures refl c.take.ensures q) c.parse_statement.ensures
+    moved _ (omega arith) (omega arith) (else_there _ _ c.in_ok-c.ensures refl c.take.ensures c.in-Else.is) c.parse_statement.ensures
 
 pub parse_if-returns-in_err-tested : goal.parse_if-returns-in_err-tested
 parse_if-returns-in_err-tested t c =
@@ -134,8 +130,8 @@ parse_if-returns-in-Some-else_part t c =
     let f = wanted_fewer p (c.in_ok-d.ensures then_word refl) refl in
     if_long _ _ _ c.in_ok-tested.ensures refl (c.in_ok-d.ensures then_word refl) refl f c.in_ok-then_part.ensures (some_at c.in-Some.is) c.in_ok-else_part.ensures (some_at c.in-Some-else_part.is) c.seal.ensures
 
-pub parse_if-seal-in-None-requires : goal.parse_if-seal-in-None-requires
-parse_if-seal-in-None-requires t c =
+pub parse_if-seal-requires-in-None : goal.parse_if-seal-requires-in-None
+parse_if-seal-requires-in-None t c =
     let p = room_after c.in_ok-tested.ensures refl {t = 0} c.requires c.parse_l_exp.auto.tree (omega arith) in
     let f = wanted_fewer p (c.in_ok-d.ensures then_word refl) refl in
     let g = grew c.in_ok-tested.ensures refl in
@@ -284,14 +280,13 @@ parse_statements-seal-requires t c =
       count_le_end = (M.members_few _ _ i h e p, omega (arith, q.small));
     }
 
-pub parse_statements-returns-then-ne : goal.parse_statements-returns-then-ne
-parse_statements-returns-then-ne t c =
+pub parse_statements-returns-in_default-f : goal.parse_statements-returns-in_default-f
+parse_statements-returns-in_default-f t c =
     let p = room_at c.requires refl (c.args.used + 4) 4 (omega arith) in
     let h = c.in_ok-member.ensures in
     let e = some_at c.in-Some.is in
     let q = room_after h e {t = 0} (M.members_room _ _ c.loop-member.invariant p) c.parse_statement.auto.tree (omega arith) in
-    let i : c.in_ok-f.f.token ≡ Semicolon → ⊥ = search rules in
-    M.members_done _ _ c.loop-member.invariant h e c.in_ok-f.ensures refl i (same_left q c.in_ok-f.ensures refl) _ refl c.seal.ensures
+    M.members_done _ _ c.loop-member.invariant h e c.in_ok-f.ensures refl c.in_default-f.not-Semicolon (same_left q c.in_ok-f.ensures refl) _ refl c.seal.ensures
 
 pub parse_statements-loop-member-smaller : goal.parse_statements-loop-member-smaller
 parse_statements-loop-member-smaller t c =
@@ -307,8 +302,7 @@ parse_statements-loop-member-preserved t c =
     let h = c.in_ok-member.ensures in
     let e = some_at c.in-Some.is in
     let q = room_after h e {t = 0} (M.members_room _ _ c.loop-member.invariant p) c.parse_statement.auto.tree (omega arith) in
-    let i : c.in_ok-f.f.token ≡ Semicolon = search rules in
-    M.members_more _ _ c.loop-member.invariant h e c.in_ok-f.ensures refl i c.take-c.ensures (one_fewer q c.in_ok-f.ensures refl c.take-c.ensures) c.parse_statement.auto.tree p
+    M.members_more _ _ c.loop-member.invariant h e c.in_ok-f.ensures refl c.in-Semicolon.is c.take-c.ensures (one_fewer q c.in_ok-f.ensures refl c.take-c.ensures) c.parse_statement.auto.tree p
 
 pub parse_while-returns-in_err-tested : goal.parse_while-returns-in_err-tested
 parse_while-returns-in_err-tested t c =
@@ -363,10 +357,9 @@ pub read_on-returns-in_err-d : goal.read_on-returns-in_err-d
 read_on-returns-in_err-d t c =
     rw (left_as c.from_residual.ensures) (refused (M.reading_stop _ _ c.loop-d.invariant c.in_err-d.ensures refl))
 
-pub read_on-returns-then-ne : goal.read_on-returns-then-ne
-read_on-returns-then-ne t c =
-    let i : c.in_ok-d.d.token ≡ Semicolon → ⊥ = search rules in
-    M.reading_end _ _ c.loop-d.invariant c.in_ok-d.ensures refl i (same_left (M.reading_room _ _ c.loop-d.invariant c.requires) c.in_ok-d.ensures refl)
+pub read_on-returns-in_default : goal.read_on-returns-in_default
+read_on-returns-in_default t c =
+    M.reading_end _ _ c.loop-d.invariant c.in_ok-d.ensures refl c.in_default.not-Semicolon (same_left (M.reading_room _ _ c.loop-d.invariant c.requires) c.in_ok-d.ensures refl)
 
 pub read_on-parse_statement-requires : goal.read_on-parse_statement-requires
 read_on-parse_statement-requires t c =
@@ -376,8 +369,7 @@ read_on-parse_statement-requires t c =
 pub read_on-returns-in_err-e : goal.read_on-returns-in_err-e
 read_on-returns-in_err-e t c =
     let q = M.reading_room _ _ c.loop-d.invariant c.requires in
-    let i : c.in_ok-d.d.token ≡ Semicolon = search rules in
-    rw (left_as c.from_residual-in_err-e.ensures) (refused (M.reading_refused _ _ c.loop-d.invariant c.in_ok-d.ensures refl i c.take.ensures (one_fewer q c.in_ok-d.ensures refl c.take.ensures) (refuses c.in_err-e.ensures)))
+    rw (left_as c.from_residual-in_err-e.ensures) (refused (M.reading_refused _ _ c.loop-d.invariant c.in_ok-d.ensures refl c.in-Semicolon.is c.take.ensures (one_fewer q c.in_ok-d.ensures refl c.take.ensures) (refuses c.in_err-e.ensures)))
 
 pub read_on-loop-d-smaller : goal.read_on-loop-d-smaller
 read_on-loop-d-smaller t c =
@@ -387,5 +379,4 @@ read_on-loop-d-smaller t c =
 pub read_on-loop-d-preserved : goal.read_on-loop-d-preserved
 read_on-loop-d-preserved t c =
     let q = M.reading_room _ _ c.loop-d.invariant c.requires in
-    let i : c.in_ok-d.d.token ≡ Semicolon = search rules in
-    M.reading_more _ _ c.loop-d.invariant c.in_ok-d.ensures refl i c.take.ensures (one_fewer q c.in_ok-d.ensures refl c.take.ensures) (room_taken q c.in_ok-d.ensures refl c.take.ensures c.args.used 4 (omega arith)) _ c.in_ok-e.ensures c.parse_statement.auto.tree
+    M.reading_more _ _ c.loop-d.invariant c.in_ok-d.ensures refl c.in-Semicolon.is c.take.ensures (one_fewer q c.in_ok-d.ensures refl c.take.ensures) (room_taken q c.in_ok-d.ensures refl c.take.ensures c.args.used 4 (omega arith)) _ c.in_ok-e.ensures c.parse_statement.auto.tree
