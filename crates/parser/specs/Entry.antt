@@ -1,5 +1,6 @@
 -- What `parse` promises: by 01's order 24, 1 and 2, and then what the parser's definition answers, with the tree's numbers from the first place on and zero behind them.
 use Rattle.std.specs.Prelude.{◌≡◌, refl, Result, Ok, Err, Bool, true, false, List, [], ◌++◌, ℕ, ◌-◌, ◌≤◌, ◌<◌, ltb, length, take, drop, replicate}
+use Rattle.std.specs.Result.{result_unwrap_or}
 use Rattle.std.proofs.Common.{sym, ap, ◌∙◌, subst, append_assoc, ltb-true, ltb-false}
 use Rattle.std.proofs.Math.Seq.{take-append_seam}
 use Rattle.numbers.specs.Limits.{tree_places}
@@ -32,8 +33,7 @@ numbers_of (refused n) = []
 
 -- where the tree ends; a refusal has none
 abbrev pub end_of : Parsed → ℕ
-end_of (Ok end) = end
-end_of (Err w) = 0
+end_of r = result_unwrap_or r 0
 
 -- what was read stands in ys up to its end, and places past the room are as they were
 pub record Reads (src xs ys : List ℕ) (r : Parsed) : Type 0 where

@@ -111,10 +111,10 @@ pub fn parse_else_part(
     ensures { Tries statement text.now tree.old used tree.new (λ n. else_part text.now n depth) (8 * left cur + 3) 8 0 cur (try_of result) }
 {
     let c = see(text, cur)?;
-    match c.token {
-        Token::Else => parse_statement(text, tree, used, depth, c.take()),
-        _ => Ok((None, c)),
-    }
+    let Token::Else = c.token else {
+        return Ok((None, c));
+    };
+    parse_statement(text, tree, used, depth, c.take())
 }
 
 // `begin` statement {`;` statement} `end`; with a member that yields nothing the `end` is left unread

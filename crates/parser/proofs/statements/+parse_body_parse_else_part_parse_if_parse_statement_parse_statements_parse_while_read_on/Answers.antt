@@ -54,8 +54,8 @@ pub parse_else_part-parse_statement-requires : goal.parse_else_part-parse_statem
 parse_else_part-parse_statement-requires t c =
     (omega (arith, c.decreases, one_fewer c.requires c.in_ok-c.ensures refl c.take.ensures), room_taken c.requires c.in_ok-c.ensures refl c.take.ensures _ 4 (omega arith))
 
-pub parse_else_part-returns-in-Else : goal.parse_else_part-returns-in-Else
-parse_else_part-returns-in-Else t c =
+pub parse_else_part-returns : goal.parse_else_part-returns
+parse_else_part-returns t c =
     let f = one_fewer c.requires c.in_ok-c.ensures refl c.take.ensures in
     moved _ (omega arith) (omega arith) (else_there _ _ c.in_ok-c.ensures refl c.take.ensures c.in-Else.is) c.parse_statement.ensures
 
