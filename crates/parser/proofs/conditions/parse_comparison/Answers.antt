@@ -2,6 +2,7 @@
 use mathlib.Core.Path.{refl, ap, ◌∙◌, ◌≡◌}
 use native.Mathlib.Omega.{arith}
 use Rattle.std.specs.Prelude.{Some, None}
+use Rattle.numbers.specs.declared.refusal.Refusal.TheVariants.{TokenMissing}
 use Rattle.std.proofs.lemmas.Result.{err_from_is_err_and}
 use Rattle.parser.specs.Answer.{node_of}
 use Rattle.parser.proofs.Answers.{refused, node_refused, grew, room_at, room_after, room_taken, one_fewer}
@@ -22,7 +23,8 @@ pub returns-in_err-sign : goal.returns-in_err-sign
 returns-in_err-sign c =
     let p = err_from_is_err_and c.from_residual-in_err-sign.result c.from_residual-in_err-sign.ensures.1 in
     let e : c.comparison.result ≡ None = grind arith in
-    rw (p.1, p.2) ?
+    let w : c.in_err-sign.field-0.0 ≡ TokenMissing = grind arith in
+    rw (p.1, p.2, w) (refused (compared_none _ _ _ c.parse_exp.ensures (ap node_of c.in_ok-first.was) c.see.ensures c.in_ok-d.was c.comparison.ensures e))
 
 pub parse_exp-requires-2 : goal.parse_exp-requires-2
 parse_exp-requires-2 c =
