@@ -5,7 +5,7 @@ use Prim.Native.Char.{code}
 use mathlib.Core.List.{List, [], ◌∷◌}
 use mathlib.Core.Bool.{Bool, true, false, ◌&&◌}
 use native.Mathlib.Numerals.{add-one}
-use native.Mathlib.Nat.{le_refl, le_trans, min-eq_left, min-eq_right, min-le_left, min-le_right}
+use native.Mathlib.Nat.{le_refl, le_trans, min-eq_left}
 use native.Mathlib.Omega.{arith}
 use lib.Dec.{leb}
 use lib.ListN.{length, get_or, take, drop}

@@ -1,18 +1,16 @@
 -- Laws of tables of spellings: a row is met or passed over, and only rows of the right length count.
 use mathlib.Core.Path.{◌≡◌, refl, sym, ◌∙◌, ap}
-use Prim.Native.Nat.{ℕ, ◌+◌, ◌≤◌, ◌<◌}
+use Prim.Native.Nat.{ℕ, ◌+◌}
 use Prim.Native.Char.{code}
 use mathlib.Core.List.{List, [], ◌∷◌}
 use mathlib.Core.Bool.{Bool, true, false, ◌&&◌}
 use mathlib.Core.Option.{none}
-use native.Mathlib.Numerals.{add-one}
 use native.Mathlib.Omega.{arith}
 use lib.Dec.{eqb}
 use lib.Pointwise.{pointwise}
 use Rattle.std.proofs.lemmas.Slice.Eq.{bytes_eq-Decides}
-use lib.ListN.{length, get_or, take, drop, drop_of_length-le}
-use lib.Seq.{drop-cons}
-use borrow.Author.Tests.{eqb-false, ne_eqb, eq-eqb}
+use lib.ListN.{length, get_or, take}
+use borrow.Author.Tests.{eqb-false, ne_eqb}
 use Rattle.numbers.specs.Bytes.{bytes, eq_list}
 use Rattle.lexer.specs.Marks.{Mark, keywords, pairs, singles, spelt}
 use Rattle.lexer.specs.Spelling.{token_of, named, sign_of}

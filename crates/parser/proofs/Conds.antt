@@ -113,13 +113,13 @@ module _ (src : List ℕ) (o : ℕ) where
     unfolding compared
     compared_stop e n l k s = let b = made h q n l k s in ap (then _) b.is ∙ ap (then _) (no_look y e b.at b.stands)
 
-    module _ {t : Cursor} (at : v ≡ Ok t) {a : O.Option Comparison} (is : Compares t.token a) where
+    module _ {t : Cursor} (at : v ≡ Ok t) {a : O.Option Comparison} (cmp : Compares t.token a) where
       pub compared_none : a ≡ O.None → Refuses src (λ n. compared src n o) (8 * left c + 3) c token_missing
       unfolding compared compare_with
       compared_none z n l k s =
           let b = made h q n l k s in
           let p = saw y at b.at b.stands in
-          let x : comparison_of p.0 ≡ none = is.compares src p.0 p.1.means ∙ ap comparing z in
+          let x : comparison_of p.0 ≡ none = cmp.compares src p.0 p.1.means ∙ ap comparing z in
           ap (then _) b.is ∙ ap (then _) p.1.looks ∙ ap (λ (a : Option Compare). compare_with src n o b.value a b.at) x
 
       -- the sign, and then the second expression
@@ -133,7 +133,7 @@ module _ (src : List ℕ) (o : ℕ) where
         unfolding compare_with take
         after_sign n b k s f i =
             let p = saw y at k s in
-            let x : comparison_of p.0 ≡ some (compare_of s') = is.compares src p.0 p.1.means ∙ ap comparing some' in
+            let x : comparison_of p.0 ≡ some (compare_of s') = cmp.compares src p.0 p.1.means ∙ ap comparing some' in
             record {
               stands = rw e p.1.beyond;
               fewer = rw e p.1.fewer;

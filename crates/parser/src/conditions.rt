@@ -30,7 +30,13 @@ fn comparison(t: Token) -> Option<Compare>
 }
 
 // `odd` exp, or exp sign exp
-pub fn parse_l_exp(text: &[u8], tree: &mut [u32], used: usize, depth: usize, cur: Cursor) -> Result<(usize, Cursor), Refusal>
+pub fn parse_l_exp(
+    text: &[u8],
+    tree: &mut [u32],
+    used: usize,
+    depth: usize,
+    cur: Cursor,
+) -> Result<(usize, Cursor), Refusal>
     requires { Room text.now tree.old used 12 cur }
     ensures { Reads condition text.now tree.old used tree.new (λ n. cond text.now n depth) (8 * left cur + 3) 8 0 cur (node_of result) }
 {
@@ -42,7 +48,13 @@ pub fn parse_l_exp(text: &[u8], tree: &mut [u32], used: usize, depth: usize, cur
 }
 
 // exp, after `odd`
-fn parse_odd(text: &[u8], tree: &mut [u32], used: usize, depth: usize, cur: Cursor) -> Result<(usize, Cursor), Refusal>
+fn parse_odd(
+    text: &[u8],
+    tree: &mut [u32],
+    used: usize,
+    depth: usize,
+    cur: Cursor,
+) -> Result<(usize, Cursor), Refusal>
     requires { Room text.now tree.old used 12 cur }
     ensures { Reads condition text.now tree.old used tree.new (λ n. odds text.now n depth) (8 * left cur + 3) 0 4 cur (node_of result) }
 {
@@ -52,7 +64,13 @@ fn parse_odd(text: &[u8], tree: &mut [u32], used: usize, depth: usize, cur: Curs
 }
 
 // exp sign exp
-fn parse_comparison(text: &[u8], tree: &mut [u32], used: usize, depth: usize, cur: Cursor) -> Result<(usize, Cursor), Refusal>
+fn parse_comparison(
+    text: &[u8],
+    tree: &mut [u32],
+    used: usize,
+    depth: usize,
+    cur: Cursor,
+) -> Result<(usize, Cursor), Refusal>
     requires { Room text.now tree.old used 12 cur }
     ensures { Reads condition text.now tree.old used tree.new (λ n. compared text.now n depth) (8 * left cur + 3) 8 0 cur (node_of result) }
 {

@@ -41,7 +41,13 @@ fn product_op(t: Token) -> Option<Arith>
 
 // [+ or -] term {+ or - term}
 #[cycle(parse_brackets_parse_exp_parse_factor_parse_negated_parse_signed_parse_term)]
-pub fn parse_exp(text: &[u8], tree: &mut [u32], used: usize, depth: usize, cur: Cursor) -> Result<(usize, Cursor), Refusal>
+pub fn parse_exp(
+    text: &[u8],
+    tree: &mut [u32],
+    used: usize,
+    depth: usize,
+    cur: Cursor,
+) -> Result<(usize, Cursor), Refusal>
     requires { Room text.now tree.old used 8 cur }
     ensures { Reads (operand 0) text.now tree.old used tree.new (λ n. exp text.now n depth) (8 * left cur + 3) 0 0 cur (node_of result) }
 {
@@ -62,7 +68,13 @@ pub fn parse_exp(text: &[u8], tree: &mut [u32], used: usize, depth: usize, cur: 
 
 // [+ or -] term
 #[cycle(parse_brackets_parse_exp_parse_factor_parse_negated_parse_signed_parse_term)]
-pub fn parse_signed(text: &[u8], tree: &mut [u32], used: usize, depth: usize, cur: Cursor) -> Result<(usize, Cursor), Refusal>
+pub fn parse_signed(
+    text: &[u8],
+    tree: &mut [u32],
+    used: usize,
+    depth: usize,
+    cur: Cursor,
+) -> Result<(usize, Cursor), Refusal>
     requires { Room text.now tree.old used 4 cur }
     ensures { Reads (operand 0) text.now tree.old used tree.new (λ n. signed text.now n depth) (8 * left cur + 2) 4 0 cur (node_of result) }
 {

@@ -1,6 +1,5 @@
 -- `integers::integer` meets its contract.
 use mathlib.Core.Path.{refl, sym, ◌∙◌, ap}
-use Prim.Native.Nat.{◌≤◌}
 use Rattle.numbers.specs.Bytes.{is_digit}
 use Rattle.lexer.specs.Spelling.{literal_of}
 use Rattle.lexer.proofs.Runs.{run_more, run_stop, run_end}
