@@ -1,5 +1,5 @@
-// Emission: the code of expressions and statements, written into the draft, which holds four numbers for each instruction: its kind, its level, and the low and
-// the high half of its operand.
+// Emission: the code of expressions and statements, written into the draft, which holds four numbers for each
+// instruction: its kind, its level, and the low and the high half of its operand.
 #![tactic(auto)]
 
 pub mod expressions;
