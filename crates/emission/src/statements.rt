@@ -13,7 +13,7 @@ ghost use Rattle.emission.specs.Meets.{here_of, Known, Ready};
 ghost use Rattle.emission.specs.Sought.{Sought, Stored, Called};
 
 use crate::expressions::{exp, l_exp, lookup, operated};
-use crate::{Env, emit, fix, reach};
+use crate::{Env, emit, emit_oper, fix, reach};
 use numbers::refusal::Refusal;
 use pcode::{Kind, Operator};
 use symbols::Symbol;
@@ -60,7 +60,7 @@ fn read_one(env: &Env<'_>, i: usize, draft: &mut [u32], n: usize) -> Result<usiz
     ensures { (t : Name) → NameAt env.now.text.now env.now.tree.now i t → Emits (storing (here_of env.now) (emit_oper read) (row_for (here_of env.now) t) n) n draft.old draft.new result }
 {
     let y = variable(env, i)?;
-    let m = emit(draft, n, Kind::Opr, 0, Operator::Read as u32)?;
+    let m = emit_oper(draft, n, Operator::Read)?;
     reach(draft, m, Kind::Sto, env.level, y.level, y.address, 0)
 }
 
@@ -93,7 +93,7 @@ fn write(env: &Env<'_>, i: usize, draft: &mut [u32], n: usize) -> Result<usize, 
         m = operated(env, j, Operator::Write, draft, m)?;
         j = tree::after(env.tree, j);
     }
-    emit(draft, m, Kind::Opr, 0, Operator::NewLine as u32)
+    emit_oper(draft, m, Operator::NewLine)
 }
 
 // The procedure that the call at i names, which takes as many arguments as it has.

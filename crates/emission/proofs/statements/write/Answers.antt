@@ -37,4 +37,4 @@ pub loop-preserved : goal.loop-preserved
 loop-preserved c = loop_more _ _ _ _ _ _ _ _ _ c.loop.invariant c.loop-test.true c.in_ok-m.ensures c.after-j.ensures
 
 pub returns : goal.returns
-returns c = loop_last _ _ _ _ _ _ _ _ _ c.loop.invariant (emit_oper new_line) (writes_empty c.args.env.now.text.now c.args.env.now.tree.now _) c.loop-test.false c.emit.ensures
+returns c = loop_last _ _ _ _ _ _ _ _ _ c.loop.invariant (emit_oper new_line) (writes_empty c.args.env.now.text.now c.args.env.now.tree.now _) c.loop-test.false c.emit_oper.ensures
