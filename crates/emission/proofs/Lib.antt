@@ -1,5 +1,6 @@
-pub mod Lookup
 pub mod Lists
+pub mod Places
+pub mod Lookup
 pub mod Exps
 pub mod Stmts
 pub mod Flow
