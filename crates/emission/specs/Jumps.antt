@@ -1,5 +1,5 @@
 -- Laws of jumps: emitted with no target, and pointed past a piece once it is written.
-use Rattle.std.specs.Prelude.{◌≡◌, refl, Bool, true, false, ℤ, pos, ltb, Result, Ok, Err}
+use Rattle.std.specs.Prelude.{◌≡◌, refl, Bool, true, false, ℤ, pos, ltb, Ok, Err}
 use Rattle.std.proofs.Common.{sym, ◌∙◌, lt-ltb, ltb-true}
 use Rattle.std.proofs.Math.Path.{ap}
 use mathlib.Core.List.{List, [], ◌∷◌, ◌++◌, append_assoc}

@@ -1,5 +1,5 @@
-// Emission: the code of expressions and statements, written into the draft, which holds four numbers for each instruction: its kind, its level, and the low and
-// the high half of its operand.
+// Emission: the code of expressions and statements, written into the draft, which holds four numbers for each
+// instruction: its kind, its level, and the low and the high half of its operand.
 #![tactic(auto)]
 
 pub mod expressions;
@@ -8,15 +8,15 @@ pub mod statements;
 ghost use Rattle.std.specs.Prelude.{◌≡◌, ◌+◌, ◌*◌, ◌≤◌, ◌<◌, pos, length, set};
 ghost use Rattle.numbers.specs.Limits.{max_code, draft_places, draft_share};
 ghost use Rattle.tree.specs.Layout.{half};
-ghost use Rattle.pcode.specs.Coded.{op_of};
+ghost use Rattle.pcode.specs.Coded.{op_of, oper};
 ghost use Rattle.symbols.specs.Symbols.{Row};
-ghost use Rattle.emission.specs.Pieces.{emit};
+ghost use Rattle.emission.specs.Pieces.{emit, emit_oper};
 ghost use Rattle.emission.specs.Statements.{Env as Here, reach};
 ghost use Rattle.emission.specs.Draft.{whole, Emits};
 
 use numbers::limits::MAX_CODE;
 use numbers::refusal::Refusal;
-use pcode::Kind;
+use pcode::{Kind, Operator};
 
 // What holds while a body is translated: the text and its tree, the table of symbol rows and how many there are, and
 // the body's scope and level.
@@ -31,23 +31,49 @@ pub struct Env<'a> {
 }
 
 // One instruction more, with an operand by its halves.
-pub fn emit_wide(draft: &mut [u32], n: usize, kind: Kind, level: u32, low: u32, high: u32) -> Result<usize, Refusal>
+pub fn emit_wide(
+    draft: &mut [u32],
+    n: usize,
+    kind: Kind,
+    level: u32,
+    low: u32,
+    high: u32,
+) -> Result<usize, Refusal>
     requires { draft_places ≤ length draft.old }
     ensures { Emits (emit (op_of kind) level (pos (whole low high)) n) n draft.old draft.new result }
 {
     if n >= MAX_CODE {
         return Err(Refusal::TooManyInstructions);
     }
-    draft[4 * n..4 * n + 4].copy_from_slice(&[u32::from(kind.number().cast_unsigned()), level, low, high]);
+    draft[4 * n..4 * n + 4].copy_from_slice(&[
+        u32::from(kind.number().cast_unsigned()),
+        level,
+        low,
+        high,
+    ]);
     Ok(n + 1)
 }
 
 // One instruction more.
-pub fn emit(draft: &mut [u32], n: usize, kind: Kind, level: u32, operand: u32) -> Result<usize, Refusal>
+pub fn emit(
+    draft: &mut [u32],
+    n: usize,
+    kind: Kind,
+    level: u32,
+    operand: u32,
+) -> Result<usize, Refusal>
     requires { draft_places ≤ length draft.old }
     ensures { Emits (emit (op_of kind) level (pos operand) n) n draft.old draft.new result }
 {
     emit_wide(draft, n, kind, level, operand, 0)
+}
+
+// An operator.
+pub fn emit_oper(draft: &mut [u32], n: usize, op: Operator) -> Result<usize, Refusal>
+    requires { draft_places ≤ length draft.old }
+    ensures { Emits (emit_oper (oper op) n) n draft.old draft.new result }
+{
+    emit(draft, n, Kind::Opr, 0, op as u32)
 }
 
 // Points the jump at p to a place.

@@ -1,14 +1,16 @@
 -- Laws of rows that are added, and of an entry that is set: the older rows keep their meaning.
 use mathlib.Core.Path.{◌≡◌, refl, sym, ap, ◌∙◌}
 use mathlib.Core.Bool.{Bool, true, false}
-use mathlib.Core.List.{List, [], ◌∷◌, ◌++◌, append_assoc}
+use mathlib.Core.List.{List, [], ◌∷◌, ◌++◌}
 use Prim.Native.Nat.{ℕ, zero, suc, ◌+◌, ◌-◌, ◌*◌, ◌≤◌, ◌<◌}
 use native.Mathlib.Omega.{arith}
 use native.Mathlib.Numerals.{add-one}
+use borrow.Rule.Slice.PartMut.{put_mid}
+use Rattle.std.proofs.lemmas.Slice.{take-put_mid}
 use borrow.Author.Count.{below_more}
 use lib.Dec.{eqb}
 use lib.ListN.{length, take, set, get_or, length-set, get_or-append}
-use lib.Seq.{take-suc-set, length-take-le, get_or-take, get_or-append-add, get_or_at, get_or-set_same, get_or-set_other, ext_get_or}
+use lib.Seq.{length-take-le, get_or-take, get_or-append-add, get_or_at, get_or-set_same, get_or-set_other, ext_get_or}
 use borrow.Author.Tests.{lt-ltb, le-ltb, eqb-true, eqb-false}
 use Rattle.numbers.specs.Limits.{max_rows, row_share}
 use Rattle.std.specs.Prelude.{Result, Ok, Err}
@@ -24,44 +26,9 @@ use Rattle.symbols.specs.Kept.{rows_length, sound_kept, rows_kept}
 use Rattle.symbols.proofs.Spelling.{eq_same, same_eq}
 use Rattle.symbols.proofs.Search.{declared_has}
 
-more_put : (l : List ℕ) (i j v : ℕ) → j ≡ i + 1 → i < length l → take j (set l i v) ≡ take i l ++ (v ∷ [])
-more_put l i j v e h = rw (e, add-one) (take-suc-set l i v h)
-
--- a store at the next place, after those that are there
-pub record Laid (l : List ℕ) (u n : ℕ) (vs w : List ℕ) : Type 0 where
-  pub laid : take (u + n) w ≡ take u l ++ vs
-  pub long : length w ≡ length l
-
-pub lay : (l : List ℕ) (u n : ℕ) (vs w : List ℕ) (v : ℕ) → u + n < length l → Laid l u n vs w → Laid l u (n + 1) (vs ++ (v ∷ [])) (set w (u + n) v)
-lay l u n vs w v h p =
-    let e : u + (n + 1) ≡ u + n + 1 = omega arith in
-    record {
-      laid = more_put w (u + n) (u + (n + 1)) v e (omega (arith, p.long)) ∙ ap (λ (x : List ℕ). x ++ (v ∷ [])) p.laid ∙ append_assoc (take u l) vs (v ∷ []);
-      long = length-set w (u + n) v ∙ p.long;
-    }
-
--- a store at the first place
-lay_first : (l : List ℕ) (u v : ℕ) → u < length l → Laid l u 1 (v ∷ []) (set l (u + 0) v)
-lay_first l u v h =
-    let e : u + 0 ≡ u = omega arith in
-    rw e (record { laid = more_put l u (u + 1) v refl h; long = length-set l u v })
-
-pub twelve : (l : List ℕ) (u a b c d e f g h i j k m : ℕ) → u + 12 ≤ length l
-    → take (u + 12) (set (set (set (set (set (set (set (set (set (set (set (set l (u + 0) a) (u + 1) b) (u + 2) c) (u + 3) d) (u + 4) e) (u + 5) f) (u + 6) g) (u + 7) h) (u + 8) i) (u + 9) j) (u + 10) k) (u + 11) m)
-    ≡ take u l ++ (a ∷ b ∷ c ∷ d ∷ e ∷ f ∷ g ∷ h ∷ i ∷ j ∷ k ∷ m ∷ [])
-twelve l u a b c d e f g h i j k m r =
-    let p₁ = lay_first l u a (omega arith) in
-    let p₂ = lay l u 1 _ _ b (omega arith) p₁ in
-    let p₃ = lay l u 2 _ _ c (omega arith) p₂ in
-    let p₄ = lay l u 3 _ _ d (omega arith) p₃ in
-    let p₅ = lay l u 4 _ _ e (omega arith) p₄ in
-    let p₆ = lay l u 5 _ _ f (omega arith) p₅ in
-    let p₇ = lay l u 6 _ _ g (omega arith) p₆ in
-    let p₈ = lay l u 7 _ _ h (omega arith) p₇ in
-    let p₉ = lay l u 8 _ _ i (omega arith) p₈ in
-    let q₁ = lay l u 9 _ _ j (omega arith) p₉ in
-    let q₂ = lay l u 10 _ _ k (omega arith) q₁ in
-    (lay l u 11 _ _ m (omega arith) q₂).laid
+-- a row that is written at u
+pub put_down : (u : ℕ) (xs ws row : List ℕ) → u ≤ length xs → ws ≡ row → length row ≡ 12 → take (u + 12) (put_mid u (u + 12 - u) xs ws) ≡ take u xs ++ row
+put_down u xs ws row h e l = take-put_mid u (u + 12 - u) xs ws (u + 12) (rw e (omega (arith, l))) h ∙ rw e
 
 -- what the first row of the new row's name is good for
 record First (s xs ys : List ℕ) (u : ℕ) (w : List ℕ) (f : ℕ) : Type 0 where

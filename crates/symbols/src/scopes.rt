@@ -19,10 +19,7 @@ pub fn is_open(table: &[u32], scope: u32) -> bool
     requires { 12 * scope ≤ length table.now }
     ensures { result ≡ is_open table.now scope }
 {
-    if scope == 0 {
-        return true;
-    }
-    table[ROW * (scope as usize - 1) + SIGHT] == Sight::Open as u32
+    scope == 0 || table[ROW * (scope as usize - 1) + SIGHT] == Sight::Open as u32
 }
 
 // Nothing is seen.
@@ -54,10 +51,7 @@ fn opens(table: &[u32], k: usize) -> bool
     ensures { result ≡ (marked table.now (first_of table.now k) && is_open table.now (scope_of table.now k)) }
 {
     let first = table[ROW * k + FIRST] as usize;
-    if table[ROW * first + SIGHT] == Sight::Dark as u32 {
-        return false;
-    }
-    is_open(table, table[ROW * k + SCOPE])
+    table[ROW * first + SIGHT] != Sight::Dark as u32 && is_open(table, table[ROW * k + SCOPE])
 }
 
 // The rows whose scope, with their own name, is seen.
