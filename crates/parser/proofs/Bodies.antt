@@ -83,10 +83,10 @@ module _ (src : List ℕ) (o : ℕ) where
   stmt_deep {c} h = by_suc (λ n. (k : Place) → Stands src c k → stmt src n o k ≡ refuse too_many_open) (8 * left c + 3) (omega arith) (λ n l k s. ap (then _) (enters_not o k h))
 
   module _ (under : o < max_open) where
-    pub stmt_refused : {c : Cursor} {v : Seen} {n : Refusal} → Sees src c v → v ≡ Err n → Refuses src (λ n. stmt src n o) (8 * left c + 3) c (number_of n)
+    pub stmt_refused : {c : Cursor} {v : Seen} {w : Refusal} → Sees src c v → v ≡ Err w → Refuses src (λ n. stmt src n o) (8 * left c + 3) c (number_of w)
     unfolding stmt
-    stmt_refused {c} {v} {n} h e =
-        by_suc (λ n. (k : Place) → Stands src c k → stmt src n o k ≡ refuse (number_of n)) (8 * left c + 3) (omega arith) (λ n l k s. ap (then _) (enters o k under) ∙ ap (then _) (no_look h e k s))
+    stmt_refused {c} {v} {w} h e =
+        by_suc (λ n. (k : Place) → Stands src c k → stmt src n o k ≡ refuse (number_of w)) (8 * left c + 3) (omega arith) (λ n l k s. ap (then _) (enters o k under) ∙ ap (then _) (no_look h e k s))
 
     module _ {c d : Cursor} {v : Seen} (h : Sees src c v) (at : v ≡ Ok d) where
       -- a token that starts no statement
@@ -203,9 +203,9 @@ module _ (src : List ℕ) (o : ℕ) where
 
   -- `begin` statements `end`
   module _ {c : Cursor} {v : Seen} (w : Wants src begin_word c v) where
-    pub body_stop : {n : Refusal} → v ≡ Err n → Refuses src (λ n. body_of src n o) (8 * left c + 1) c (number_of n)
+    pub body_stop : {x : Refusal} → v ≡ Err x → Refuses src (λ n. body_of src n o) (8 * left c + 1) c (number_of x)
     unfolding body_of
-    body_stop {n} {x} e = by_suc (λ n. (k : Place) → Stands src c k → body_of src n o k ≡ refuse (number_of n)) (8 * left c + 1) (omega arith) (λ n l k s. ap (then _) (no_mark w e k s))
+    body_stop {x} e = by_suc (λ n. (k : Place) → Stands src c k → body_of src n o k ≡ refuse (number_of x)) (8 * left c + 1) (omega arith) (λ n l k s. ap (then _) (no_mark w e k s))
 
     module _ {t : Cursor} (at : v ≡ Ok t) where
       pub body_in : {x : ℕ} → Refuses src (λ n. stmts src n o) (8 * left t + 4) t x → Refuses src (λ n. body_of src n o) (8 * left c + 1) c x
@@ -226,10 +226,10 @@ module _ (src : List ℕ) (o : ℕ) where
           record { value = none; empty = refl; at = x.at; is = ap (then _) y.wants ∙ ap (then _) g; stands = x.stands; wrote = x.wrote })
 
       module _ {xs ys : List ℕ} {u end : ℕ} {d : Cursor} {r : Answer} (h : Tries P.body src xs u ys (λ n. stmts src n o) (8 * left t + 4) 0 0 t r) (q : r ≡ Node end d) {v' : Seen} (w' : Wants src end_word d v') where
-        pub body_open : {n : Refusal} → v' ≡ Err n → Refuses src (λ n. body_of src n o) (8 * left c + 1) c (number_of n)
+        pub body_open : {x : Refusal} → v' ≡ Err x → Refuses src (λ n. body_of src n o) (8 * left c + 1) c (number_of x)
         unfolding body_of
-        body_open {n} {x} e =
-            by_suc (λ n. (k : Place) → Stands src c k → body_of src n o k ≡ refuse (number_of n)) (8 * left c + 1) (omega arith)
+        body_open {x} e =
+            by_suc (λ n. (k : Place) → Stands src c k → body_of src n o k ≡ refuse (number_of x)) (8 * left c + 1) (omega arith)
             (λ n l k s.
             let y = took w at k s in
             let b = made h q n (omega (arith, y.fewer)) (past src k) y.stands in

@@ -1,5 +1,5 @@
 -- Statements that hold statements, and bodies.
-use Rattle.std.specs.Prelude.{Ok, Err}
+use Rattle.std.specs.Prelude.{Ok, Err, Option as Perhaps}
 use mathlib.Core.Path.{◌≡◌, refl, sym, ap, ◌∙◌}
 use mathlib.Core.List.{List}
 use mathlib.Core.Option.{Option, none, some}
@@ -16,7 +16,7 @@ use Rattle.tree.specs.Tree.{Cond, Stmt, if_then, if_else, while}
 use Rattle.tree.specs.Layout.{member, node_no, if_kind, while_kind, count}
 use Rattle.tree.specs.Nodes.{cond_node, stmt_node}
 use Rattle.tree.specs.Writing.{join}
-use Rattle.parser.specs.Answer.{Answer, Node, Nothing, Refused}
+use Rattle.parser.specs.Answer.{Answer, Node, Nothing, try_of}
 use Rattle.grammar.specs.Reader.{then, if_next}
 use Rattle.grammar.specs.Grammar.{cond, stmt, if_node, map_o}
 use Rattle.parser.specs.Parts.{condition}
@@ -24,11 +24,10 @@ use Rattle.parser.specs.Pieces.{statement, looped, conditional, else_part}
 use Rattle.parser.specs.Written.{Wrote, Seals}
 use Rattle.parser.specs.See.{Seen, Sees, Wants}
 use Rattle.parser.specs.Meets.{Room, Safe, Means, Reads, Tries}
-use Rattle.parser.specs.Quiet.{quieted_of}
 use Rattle.parser.proofs.Seeing.{saw, no_look, took, no_mark, next_is, next_is_not}
 use Rattle.parser.proofs.Writing.{wrote_none, wrote_more, wrote_kept}
-use Rattle.parser.proofs.Answers.{Refuses, refused, grew, made, Moved}
-use Rattle.parser.proofs.Tries.{quiet, quiet_left, Quietly, nothing}
+use Rattle.parser.proofs.Answers.{Refuses, grew, made, Moved}
+use Rattle.parser.proofs.Tries.{quiet, quiet_left, try_left, went, Quietly, nothing}
 use Rattle.parser.proofs.Choices.{then_same, next_refused, next_then}
 
 -- nothing stays nothing
@@ -156,43 +155,30 @@ module _ (src : List ℕ) (o : ℕ) where
 
       module _ {zs : List ℕ} {p : Answer} (hs : Tries statement src ys i zs (λ n. stmt src n o) (8 * left t + 3) 8 0 t p) where
         -- the then part yields nothing: so does the whole, and the else part is read
-        pub if_quiet : {e : Cursor} → p ≡ Nothing e → {ws : List ℕ} (r' : Answer) → Tries statement src zs i ws (λ n. else_part src n o) (8 * left e + 3) 8 0 e r'
-            → Tries statement src xs u ws (λ n. conditional src n o) (8 * left c + 3) 8 0 c (quieted_of r')
-        unfolding Safe Means if_node
-        if_quiet {e} z {ws} (Node j f) he =
-            nothing (omega (arith, (grew he refl).fewer, quiet_left hs z, (grew h q).fewer))
-            (λ n l k s.
-            let b = then_at n l k s in
-            let x = quiet hs z n b.enough b.place b.stands in
-            let y = made he refl n (omega (arith, b.enough, quiet_left hs z)) x.at x.stands in
-            record {
-              value = if_node b.test x.value (some y.value);
-              empty = ap (λ (a : Option Stmt). if_node b.test a (some y.value)) x.empty;
-              at = y.at;
-              is = b.is ∙ ap (then _) x.is ∙ ap (then _) y.is;
-              stands = y.stands;
-              wrote = wrote_kept u (omega arith) (wrote_more b.wrote (wrote_more x.wrote y.wrote));
-            })
-        if_quiet {e} z {ws} (Nothing f) he =
-            nothing (omega (arith, he.safe, quiet_left hs z, (grew h q).fewer))
-            (λ n l k s.
-            let b = then_at n l k s in
-            let x = quiet hs z n b.enough b.place b.stands in
-            let y = quiet he refl n (omega (arith, b.enough, quiet_left hs z)) x.at x.stands in
-            record {
-              value = if_node b.test x.value y.value;
-              empty = ap (λ (a : Option Stmt). if_node b.test a y.value) x.empty;
-              at = y.at;
-              is = b.is ∙ ap (then _) x.is ∙ ap (then _) y.is;
-              stands = y.stands;
-              wrote = wrote_kept u (omega arith) (wrote_more b.wrote (wrote_more x.wrote y.wrote));
-            })
-        if_quiet {e} z {ws} (Refused m) he =
-            refused
-            (λ n l k s.
-            let b = then_at n l k s in
-            let x = quiet hs z n b.enough b.place b.stands in
-            b.is ∙ ap (then _) x.is ∙ ap (then _) (he.means n (omega (arith, b.enough, quiet_left hs z)) x.at x.stands))
+        module _ {e : Cursor} (z : p ≡ Nothing e) where
+          pub if_quiet_in : {x : ℕ} → Refuses src (λ n. else_part src n o) (8 * left e + 3) e x → Refuses src (λ n. conditional src n o) (8 * left c + 3) c x
+          if_quiet_in y n l k s =
+              let b = then_at n l k s in
+              let x = quiet hs z n b.enough b.place b.stands in
+              b.is ∙ ap (then _) x.is ∙ ap (then _) (y n (omega (arith, b.enough, quiet_left hs z)) x.at x.stands)
+
+          pub if_quiet : {ws : List ℕ} (j : Perhaps ℕ) {f : Cursor} → Tries statement src zs i ws (λ n. else_part src n o) (8 * left e + 3) 8 0 e (try_of (Ok (j, f)))
+              → Tries statement src xs u ws (λ n. conditional src n o) (8 * left c + 3) 8 0 c (Nothing f)
+          unfolding if_node
+          if_quiet j {f} he =
+              nothing (omega (arith, try_left j f he, quiet_left hs z, (grew h q).fewer))
+              (λ n l k s.
+              let b = then_at n l k s in
+              let x = quiet hs z n b.enough b.place b.stands in
+              let y = went j he n (omega (arith, b.enough, quiet_left hs z)) x.at x.stands in
+              record {
+                value = if_node b.test x.value y.value;
+                empty = ap (λ (a : Option Stmt). if_node b.test a y.value) x.empty;
+                at = y.at;
+                is = b.is ∙ ap (then _) x.is ∙ ap (then _) y.is;
+                stands = y.stands;
+                wrote = wrote_kept u (omega arith) (wrote_more b.wrote (wrote_more x.wrote y.wrote));
+              })
 
         -- the then part is there
         module _ {j : ℕ} {e : Cursor} (z : p ≡ Node j e) where

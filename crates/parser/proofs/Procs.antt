@@ -1,5 +1,5 @@
 -- Procedures and blocks: their definitions by the readers' parts, and what each part's answer comes to.
-use Rattle.std.specs.Prelude.{Ok, Err}
+use Rattle.std.specs.Prelude.{Ok, Err, Option as Perhaps}
 use mathlib.Core.Path.{◌≡◌, refl, sym, ap, ◌∙◌}
 use mathlib.Core.Bool.{Bool}
 use mathlib.Core.List.{List, [], ◌∷◌, ◌++◌}
@@ -22,20 +22,19 @@ use Rattle.tree.specs.Layout.{Nodes, node_no, no_procedures_kind, procedure_kind
 use Rattle.tree.specs.Nodes.{name_node, names_node, procs_node, body_node, block_node}
 use Rattle.tree.specs.Writing.{join}
 use Rattle.tree.specs.Reading.{sizes_least}
-use Rattle.parser.specs.Answer.{Answer, Node, Nothing, Refused}
+use Rattle.parser.specs.Answer.{Answer, Node, Nothing, Refused, try_of}
 use Rattle.grammar.specs.Reader.{then, pure, enter, is_mark, want, want_name}
 use Rattle.grammar.specs.Grammar.{both, map_o, or_absent, const_part, var_part, arg_part, body_of, proc_of, inner_of, later_of, program}
 use Rattle.parser.specs.Parts.{only}
-use Rattle.parser.specs.Blocks.{Decls, Head, Front, decls, decls_nodes, head, head_nodes, front, front_nodes, block, quiet_later, Silent}
-use Rattle.parser.specs.Quiet.{quieted_of}
+use Rattle.parser.specs.Blocks.{Decls, Head, Front, decls, decls_nodes, head, head_nodes, front, front_nodes, block}
 use Rattle.parser.specs.See.{Seen, Sees, Wants}
 use Rattle.parser.specs.Written.{Wrote, Seals}
 use Rattle.parser.specs.Meets.{Safe, Made, Quiet, Means, Meets, Reads, Tries}
 use Rattle.parser.proofs.Seeing.{choose, saw, no_look, took, no_mark, it_is, it_is_not, next_is, next_is_not, enters, enters_not}
 use Rattle.parser.proofs.Writing.{wrote_more, wrote_kept}
-use Rattle.parser.proofs.Answers.{Refuses, by_suc, refused, grew, made, Moved}
+use Rattle.parser.proofs.Answers.{Refuses, by_suc, grew, made, Moved}
 use Rattle.parser.proofs.Choices.{then_then, then_same, next_refused}
-use Rattle.parser.proofs.Tries.{NoQuiet, quiet, quiet_left, Quietly, nothing}
+use Rattle.parser.proofs.Tries.{quiet, quiet_left, try_left, went, Quietly, nothing}
 use Rattle.parser.proofs.Sequences.{Sequence, Joins}
 use Rattle.parser.proofs.Declared.{wrote_empty}
 
@@ -239,41 +238,34 @@ module _ (src : List ℕ) where
               (λ x l k s. let b = fronted x (omega arith) k s in b.is ∙ ap (then _) (z x (omega (arith, fewer2)) b.at b.stands))
 
           module _ {ts : List ℕ} {d3 : Cursor} {r3 : Answer} (h3 : Tries (λ b. only (body_node b)) src zs f ts (λ n. body_of src n o') (8 * left d2 + 1) 8 0 d2 r3) where
-            -- the body yields nothing
-            pub proc_quiet : r3 ≡ Nothing d3 → {ws : List ℕ} (r4 : Answer) → Silent src ts f ws (λ n. quiet_later src n o') (8 * left d3 + 1) d3 r4
-                → Tries (λ p. only (procs_node p)) src xs u ws (λ n. proc_of src n o) (8 * left c + 1) 0 0 c r4
-            unfolding Safe Means both quiet_later
-            proc_quiet z {ws} (Node i t) h4 =
-                record {
-                  safe = record { above = omega (arith, h4.safe.above, (grew h q).above, (grew h2 q2).above); fewer = omega (arith, h4.safe.fewer, quiet_left h3 z, fewer2); room = omega (arith, (grew h q).room, (grew h2 q2).room, h4.safe.room, quiet_left h3 z) };
-                  means = by_suc (λ x. (k : Place) → Stands src c k → Made some (λ v. v ≡ none) (λ p. only (procs_node p)) src xs u ws i t (proc_of src x o k)) (8 * left c + 1) (omega arith)
-                      (λ x l k s.
-                      let a = fronted x (omega arith) k s in
-                      let b = quiet h3 z x (omega (arith, fewer2)) a.at a.stands in
-                      absurd (h4.means x (omega (arith, fewer2, quiet_left h3 z)) b.at b.stands).value);
-                }
-            proc_quiet z {ws} (Nothing t) h4 =
-                nothing (omega (arith, h4.safe, quiet_left h3 z, fewer2))
-                (by_suc (λ x. (k : Place) → Stands src c k → Quiet some (λ v. v ≡ none) (λ p. only (procs_node p)) src xs u ws t (proc_of src x o k)) (8 * left c + 1) (omega arith)
-                (λ x l k s.
-                let a = fronted x (omega arith) k s in
-                let b = quiet h3 z x (omega (arith, fewer2)) a.at a.stands in
-                let y = quiet h4 refl x (omega (arith, fewer2, quiet_left h3 z)) b.at b.stands in
-                record {
-                  value = none;
-                  empty = refl;
-                  at = y.at;
-                  is = a.is ∙ ap (then _) (b.is ∙ ap (λ v. got v b.at) b.empty) ∙ y.is ∙ ap (λ v. got v y.at) y.empty;
-                  stands = y.stands;
-                  wrote = wrote_kept u (omega arith) (wrote_more (wrote_more a.wrote b.wrote) y.wrote);
-                }))
-            proc_quiet z (Refused w) h4 =
-                refused
-                (by_suc (λ x. (k : Place) → Stands src c k → proc_of src x o k ≡ refuse w) (8 * left c + 1) (omega arith)
-                (λ x l k s.
-                let a = fronted x (omega arith) k s in
-                let b = quiet h3 z x (omega (arith, fewer2)) a.at a.stands in
-                a.is ∙ ap (then _) (b.is ∙ ap (λ v. got v b.at) b.empty) ∙ h4.means x (omega (arith, fewer2, quiet_left h3 z)) b.at b.stands))
+            -- the body yields nothing: so does the whole, and the later ones are read
+            module _ (z : r3 ≡ Nothing d3) where
+              pub proc_quiet_later : {w : ℕ} → Refuses src (λ n. later_of src n o') (8 * left d3 + 1) d3 w → Refuses src (λ n. proc_of src n o) (8 * left c + 1) c w
+              proc_quiet_later {w} y =
+                  by_suc (λ x. (k : Place) → Stands src c k → proc_of src x o k ≡ refuse w) (8 * left c + 1) (omega arith)
+                  (λ x l k s.
+                  let a = fronted x (omega arith) k s in
+                  let b = quiet h3 z x (omega (arith, fewer2)) a.at a.stands in
+                  a.is ∙ ap (then _) b.is ∙ ap (then _) (y x (omega (arith, fewer2, quiet_left h3 z)) b.at b.stands))
+
+              pub proc_quiet : {ws : List ℕ} (j : Perhaps ℕ) {t : Cursor} → Tries (λ p. only (procs_node p)) src ts f ws (λ n. later_of src n o') (8 * left d3 + 1) 0 4 d3 (try_of (Ok (j, t)))
+                  → Tries (λ p. only (procs_node p)) src xs u ws (λ n. proc_of src n o) (8 * left c + 1) 0 0 c (Nothing t)
+              unfolding both
+              proc_quiet {ws} j {t} h4 =
+                  nothing (omega (arith, try_left j t h4, quiet_left h3 z, fewer2))
+                  (by_suc (λ x. (k : Place) → Stands src c k → Quiet some (λ v. v ≡ none) (λ p. only (procs_node p)) src xs u ws t (proc_of src x o k)) (8 * left c + 1) (omega arith)
+                  (λ x l k s.
+                  let a = fronted x (omega arith) k s in
+                  let b = quiet h3 z x (omega (arith, fewer2)) a.at a.stands in
+                  let y = went j h4 x (omega (arith, fewer2, quiet_left h3 z)) b.at b.stands in
+                  record {
+                    value = none;
+                    empty = refl;
+                    at = y.at;
+                    is = a.is ∙ ap (then _) (b.is ∙ ap (λ v. got v b.at) b.empty) ∙ ap (then _) y.is;
+                    stands = y.stands;
+                    wrote = wrote_kept u (omega arith) (wrote_more (wrote_more a.wrote b.wrote) y.wrote);
+                  }))
 
             module _ {i : ℕ} (q3 : r3 ≡ Node i d3) where
               fewer3 : left d3 + 1 ≤ left c
@@ -364,18 +356,6 @@ module _ (src : List ℕ) where
               record { value = no_procs; at = k; is = next_is_not p semicolon_sign _ _ i; stands = p.stands; wrote = wrote_empty no_procedures_kind fits q l });
         }
 
-    -- after a body that yields nothing
-    pub later_silent : {xs ys : List ℕ} {u : ℕ} {c : Cursor} (r : Answer) → Tries (λ p. only (procs_node p)) src xs u ys (λ n. later_of src n o) (8 * left c + 1) 0 4 c r
-        → Silent src xs u ys (λ n. quiet_later src n o) (8 * left c + 1) c (quieted_of r)
-    unfolding quiet_later Safe Means
-    later_silent (Node e d) h =
-        nothing h.safe.fewer
-        (λ n l k s. let b = h.means n l k s in record { value = none; empty = refl; at = b.at; is = ap (then _) b.is; stands = b.stands; wrote = wrote_kept _ (omega arith) b.wrote })
-    later_silent (Nothing d) h =
-        nothing h.safe
-        (λ n l k s. let b = h.means n l k s in record { value = none; empty = refl; at = b.at; is = ap (then _) b.is; stands = b.stands; wrote = b.wrote })
-    later_silent (Refused w) h = refused (λ n l k s. ap (then _) (h.means n l k s))
-
     -- a block's [procedure]
     module _ {c : Cursor} {v : Seen} (h : Sees src c v) where
       pub inner_stop : {n : Refusal} → v ≡ Err n → Refuses src (λ n. inner_of src n o) (8 * left c + 2) c (number_of n)
@@ -405,22 +385,26 @@ module _ (src : List ℕ) where
               record { value = no_procs; at = k; is = inner_is x k s ∙ ap (λ (b : Bool). choose b (absent x) (pure no_procs) k) (it_is_not p procedure_word i); stands = p.stands; wrote = wrote_empty no_procedures_kind fits q l });
         }
 
+        -- a refusal
+        pub inner_in : d.token ≡ token_of procedure_word → {w : ℕ} → Refuses src (λ n. proc_of src n o) (8 * left d + 1) d w → left d ≡ left c → Refuses src (λ n. inner_of src n o) (8 * left c + 2) c w
+        inner_in i {w} z f =
+            by_suc (λ x. (k : Place) → Stands src c k → inner_of src x o k ≡ refuse w) (8 * left c + 2) (omega arith)
+            (λ x l k s. inner_there i x k s ∙ ap (then _) (z x (omega arith) k (saw h at k s).1.stands))
+
         module _ (i : d.token ≡ token_of procedure_word) (f : left d ≡ left c) {xs ys : List ℕ} {u : ℕ} where
-          -- a procedure, or a refusal
-          pub inner_up : (r : Answer) → Tries (λ p. only (procs_node p)) src xs u ys (λ n. proc_of src n o) (8 * left d + 1) 0 0 d r → NoQuiet r → Reads (λ p. only (procs_node p)) src xs u ys (λ n. inner_of src n o) (8 * left c + 2) 0 4 c r
+          -- a procedure
+          pub inner_up : {r : Answer} {e : ℕ} {t : Cursor} → Tries (λ p. only (procs_node p)) src xs u ys (λ n. proc_of src n o) (8 * left d + 1) 0 0 d r → r ≡ Node e t
+              → Reads (λ p. only (procs_node p)) src xs u ys (λ n. inner_of src n o) (8 * left c + 2) 0 4 c (Node e t)
           unfolding Safe Means or_absent
-          inner_up (Node e t) z y = record {
-            safe = record { above = z.safe.above; fewer = omega (arith, z.safe.fewer); room = omega (arith, z.safe.room) };
-            means = by_suc (λ x. (k : Place) → Stands src c k → Made (λ a. a) (λ v. ⊥) (λ p. only (procs_node p)) src xs u ys e t (inner_of src x o k)) (8 * left c + 2) (omega arith)
-                (λ x l k s.
-                let b = z.means x (omega arith) k (saw h at k s).1.stands in
-                record { value = b.value; at = b.at; is = inner_there i x k s ∙ ap (then _) b.is; stands = b.stands; wrote = b.wrote });
-          }
-          inner_up (Nothing t) z y = absurd (y t refl)
-          inner_up (Refused w) z y =
-              refused
-              (by_suc (λ x. (k : Place) → Stands src c k → inner_of src x o k ≡ refuse w) (8 * left c + 2) (omega arith)
-              (λ x l k s. inner_there i x k s ∙ ap (then _) (z.means x (omega arith) k (saw h at k s).1.stands)))
+          inner_up {r} {e} {t} z q =
+              let g = grew z q in
+              record {
+                safe = record { above = g.above; fewer = omega (arith, g.fewer); room = omega (arith, g.room) };
+                means = by_suc (λ x. (k : Place) → Stands src c k → Made (λ a. a) (λ v. ⊥) (λ p. only (procs_node p)) src xs u ys e t (inner_of src x o k)) (8 * left c + 2) (omega arith)
+                    (λ x l k s.
+                    let b = made z q x (omega arith) k (saw h at k s).1.stands in
+                    record { value = b.value; at = b.at; is = inner_there i x k s ∙ ap (then _) b.is; stands = b.stands; wrote = b.wrote });
+              }
 
           -- one that yields nothing is absent
           pub inner_absent : {zs : List ℕ} {e : ℕ} {r : Answer} {t : Cursor} → Tries (λ p. only (procs_node p)) src xs u ys (λ n. proc_of src n o) (8 * left d + 1) 0 0 d r → r ≡ Nothing t

@@ -20,3 +20,8 @@ abbrev pub try_of : Result (Option ℕ × Cursor) Refusal → Answer
 try_of (Ok (Some e, c)) = Node e c
 try_of (Ok (None, c)) = Nothing c
 try_of (Err w) = Refused (number_of w)
+
+-- of a reader that yields nothing wherever it does not refuse
+abbrev pub quiet_of : Result Cursor Refusal → Answer
+quiet_of (Ok c) = Nothing c
+quiet_of (Err w) = Refused (number_of w)

@@ -6,6 +6,5 @@ pub mod Parts
 pub mod Lists
 pub mod Blocks
 pub mod Pieces
-pub mod Quiet
 pub mod Entry
 pub mod Arguments
