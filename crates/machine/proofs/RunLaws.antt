@@ -9,8 +9,7 @@ use lib.Seq.{length-take-le, take_at, drop_at, drop-drop}
 use borrow.Author.Tests.{le-leb, lt-leb}
 use Rattle.numbers.specs.Panel.{done, too_many_instructions, budget_spent, room_too_small}
 use Rattle.numbers.specs.Limits.{max_code, max_cells}
-use Rattle.numbers.specs.Lent.{onto, filling}
-use Rattle.numbers.proofs.Putting.{filling_whole}
+use Rattle.numbers.specs.Lent.{onto}
 use Rattle.pcode.specs.Code.{Instr, Code, places_in, instrs_in}
 use Rattle.pcode.specs.PlaceLaws.{kinds_enough, levels_enough, operands_enough, length_instrs}
 use Rattle.machine.specs.declared.frames.Frame.{Frame}
@@ -175,23 +174,13 @@ listed ks ls os e h = record {
 unfoldable pub zeros : List ℤ
 zeros = replicate max_cells (pos 0)
 
-zeros_length : length zeros ≡ max_cells
+pub zeros_length : length zeros ≡ max_cells
 unfolding zeros
 zeros_length = length-replicate max_cells (pos 0)
 
-module _ (cells : List ℤ) {cs : List ℤ} (e : cs ≡ onto cells (filling 0 max_cells (pos 0) cells)) where
-  pub zeroed : cs ≡ zeros ++ drop max_cells cells
-  unfolding zeros
-  zeroed = filling_whole max_cells (pos 0) cells e ∙ ap (λ (n : ℕ). zeros ++ drop n cells) zeros_length
-
-  pub zeroed_first : take max_cells cs ≡ zeros
-  zeroed_first = ap (take max_cells) zeroed ∙ take_at zeros (drop max_cells cells) max_cells zeros_length
-
-  pub zeroed_size : length (take max_cells cs) ≡ max_cells
-  zeroed_size = ap length zeroed_first ∙ zeros_length
-
-  pub zeroed_rest : drop max_cells cs ≡ drop max_cells cells
-  zeroed_rest = ap (drop max_cells) zeroed ∙ drop_at zeros (drop max_cells cells) max_cells zeros_length
+pub zeroed_by : (cells : List ℤ) {part part' : List ℤ} → max_cells ≤ length cells → part ≡ take max_cells cells → part' ≡ replicate (length part) (pos 0) → part' ≡ zeros
+unfolding zeros
+zeroed_by cells h p e = e ∙ ap (λ (n : ℕ). replicate n (pos 0)) (ap length p ∙ length-take-le max_cells cells h)
 
 -- the public outcome
 module _ (code : Code) (input : List ℕ) (budget : ℕ) (out : List ℕ) (cells : List ℤ) where

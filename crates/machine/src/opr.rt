@@ -13,29 +13,30 @@ use crate::jumps::back;
 use crate::panel::{CELL_OUTSIDE, NOT_AN_OPERATION};
 use crate::steps::Does;
 use numbers::arithmetic;
-use numbers::arithmetic::Answer;
+use numbers::arithmetic::Compare;
+use numbers::refusal::Refusal;
 use pcode::{
     ADD, AT_LEAST, AT_MOST, DIV, EQUAL, GREATER, IDLE, LESS, MUL, NEGATE, NEW_LINE, ODD, READ,
     RETURN, SUB, UNEQUAL, WRITE,
 };
 
-fn one(o: i64, x: i64) -> Answer
+fn one(o: i64, x: i64) -> Result<i64, Refusal>
     ensures { (p : Oper) → o ≡ pos (oper_no p) → val_of result ≡ one_of p x }
 {
     match o {
         NEGATE => arithmetic::negate(x),
-        ODD => Answer::Value(arithmetic::remainder(x)),
-        _ => Answer::Refused(NOT_AN_OPERATION),
+        ODD => Ok(arithmetic::remainder(x)),
+        _ => Err(Refusal::NotAnOperation),
     }
 }
 
-fn flag(holds: bool) -> Answer
+fn flag(holds: bool) -> Result<i64, Refusal>
     ensures { val_of result ≡ flagged holds }
 {
-    Answer::Value(arithmetic::flag_of(holds))
+    Ok(arithmetic::flag_of(holds))
 }
 
-fn two(o: i64, x: i64, y: i64) -> Answer
+fn two(o: i64, x: i64, y: i64) -> Result<i64, Refusal>
     ensures { (p : Oper) → o ≡ pos (oper_no p) → val_of result ≡ two_of p x y }
 {
     match o {
@@ -43,27 +44,27 @@ fn two(o: i64, x: i64, y: i64) -> Answer
         SUB => arithmetic::sub(x, y),
         MUL => arithmetic::mul(x, y),
         DIV => arithmetic::div(x, y),
-        EQUAL => flag(arithmetic::is_equal(x, y)),
-        UNEQUAL => flag(arithmetic::is_unequal(x, y)),
-        LESS => flag(arithmetic::is_less(x, y)),
-        AT_LEAST => flag(arithmetic::is_at_least(x, y)),
-        GREATER => flag(arithmetic::is_greater(x, y)),
-        AT_MOST => flag(arithmetic::is_at_most(x, y)),
-        _ => Answer::Refused(NOT_AN_OPERATION),
+        EQUAL => flag(Compare::Equal.holds(x, y)),
+        UNEQUAL => flag(Compare::Unequal.holds(x, y)),
+        LESS => flag(Compare::Less.holds(x, y)),
+        AT_LEAST => flag(Compare::AtLeast.holds(x, y)),
+        GREATER => flag(Compare::Greater.holds(x, y)),
+        AT_MOST => flag(Compare::AtMost.holds(x, y)),
+        _ => Err(Refusal::NotAnOperation),
     }
 }
 
 // An operator's value goes to the cell i, and the top is t; its fault stops the step.
-fn replace(cells: &mut [i64], i: usize, t: usize, v: Answer, f: Frame) -> Does
+fn replace(cells: &mut [i64], i: usize, t: usize, v: Result<i64, Refusal>, f: Frame) -> Does
     requires { (length cells.old ≡ max_cells) × Steady f × (i < max_cells) × (t ≤ max_cells) }
     ensures { (code : List Instr) (room : ℕ) → Did code room (replacing i t (val_of v)) f cells.old result cells.new }
 {
     match v {
-        Answer::Value(z) => {
+        Ok(z) => {
             cells[i] = z;
             Does::Next(f.onward(t))
         }
-        Answer::Refused(n) => Does::Stop(n),
+        Err(e) => Does::Stop(e.number()),
     }
 }
 

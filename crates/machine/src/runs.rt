@@ -11,7 +11,6 @@ use crate::panel::{BUDGET_SPENT, DONE, ROOM_TOO_SMALL, TOO_MANY_INSTRUCTIONS};
 use crate::step::step;
 use crate::steps::Does;
 use crate::talk::{Talk, Talked, Tape, exchange};
-use numbers::room::clear_i64;
 use pcode::code_length;
 
 // Instructions in a code list.
@@ -151,22 +150,13 @@ pub fn run(
 ) -> Ended
     ensures { outcome_of result out.new cells.new ≡ run_outcome (record { kinds = kinds.now; levels = levels.now; operands = operands.now }) input.now budget out.old cells.old }
 {
-    if cells.len() < CELLS {
+    let Some(cells) = cells.first_chunk_mut::<CELLS>() else {
         return refused(ROOM_TOO_SMALL);
-    }
-    clear_i64(cells, 0, CELLS);
+    };
+    cells.fill(0);
     let places = code_length(kinds, levels, operands);
     if MAX_CODE < places {
         return refused(TOO_MANY_INSTRUCTIONS);
     }
-    counted(
-        kinds,
-        levels,
-        operands,
-        input,
-        budget,
-        out,
-        &mut cells[..CELLS],
-        places,
-    )
+    counted(kinds, levels, operands, input, budget, out, cells, places)
 }

@@ -7,8 +7,8 @@ ghost use Rattle.machine.specs.Talks.{wrote_to, took_to, Within, Ready, Spoke};
 
 use crate::frames::Frame;
 use crate::panel::{BAD_ENTRY, OUTPUT_FULL};
-use numbers::line::{Taken, next_entry};
-use numbers::screen::{Put, put_newline, put_number, put_prompt};
+use numbers::line::next_entry;
+use numbers::screen::{put_newline, put_number, put_prompt};
 
 // What is exchanged: a number to write, a newline, or a line to read into a cell.
 #[derive(Clone, Copy)]
@@ -61,7 +61,7 @@ fn write(out: &mut [u8], z: i64, f: Frame, t: Tape) -> Talked
 {
     let top = f.top;
     let from = t.out;
-    let Put::At(end) = put_number(out, from, z) else {
+    let Ok(end) = put_number(out, from, z) else {
         return Talked::Stop(OUTPUT_FULL);
     };
     Talked::On(f.onward(top), t.wrote(end))
@@ -73,7 +73,7 @@ fn newline(out: &mut [u8], f: Frame, t: Tape) -> Talked
 {
     let top = f.top;
     let from = t.out;
-    let Put::At(end) = put_newline(out, from) else {
+    let Ok(end) = put_newline(out, from) else {
         return Talked::Stop(OUTPUT_FULL);
     };
     Talked::On(f.onward(top), t.wrote(end))
@@ -87,10 +87,10 @@ fn read(cells: &mut [i64], input: &[u8], out: &mut [u8], i: usize, f: Frame, t: 
     let top = f.top;
     let at = t.at;
     let from = t.out;
-    let Taken::Got(z, next) = next_entry(input, at) else {
+    let Ok((z, next)) = next_entry(input, at) else {
         return Talked::Stop(BAD_ENTRY);
     };
-    let Put::At(end) = put_prompt(out, from) else {
+    let Ok(end) = put_prompt(out, from) else {
         return Talked::Stop(OUTPUT_FULL);
     };
     cells[i] = z;
