@@ -1,17 +1,15 @@
 -- `link`: the three stores are those of the definition.
+use mathlib.Core.Path.{refl, sym, ap, ◌∙◌}
+use Prim.Native.Nat.{◌-◌, ◌<◌}
 use native.Mathlib.Omega.{arith}
 use lib.IntN.{pos}
-use lib.ListN.{length-set}
+use lib.ListN.{length, get_or, set}
 use mir.Syntax.{w64}
-use mir.Val.{SFits}
+use mir.Val.{SFits, to_z, of_z}
 use mir.ValLaws.{to_z-of_z}
+use borrow.Author.Rules.{rules}
+use Rattle.std.proofs.lemmas.Result.{err_from_is_err_and}
 use Rattle.machine.proofs.jumps.link.Goals as goal
-
-pub bounds-cells-top-2 : goal.bounds-cells-top-2
-bounds-cells-top-2 c = simp length-set (omega (arith, c.requires))
-
-pub bounds-cells-top-3 : goal.bounds-cells-top-3
-bounds-cells-top-3 c = simp length-set (omega (arith, c.requires))
 
 pub returns : goal.returns
 returns c =

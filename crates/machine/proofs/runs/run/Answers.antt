@@ -1,8 +1,7 @@
 -- `run`: too little room, too long a list, or the counted run from zeroed cells.
-use Rattle.std.proofs.Common.{refl, length, drop, arith, ap, ◌∙◌, ℤ, List, ◌++◌}
+use Rattle.std.proofs.Common.{refl, drop, arith, ap, ◌∙◌, ℤ, List, ◌++◌, length}
 use Rattle.numbers.specs.Limits.{max_cells}
 use Rattle.pcode.specs.Code.{Code}
-use Rattle.pcode.specs.PlaceLaws.{length_instrs}
 use Rattle.machine.proofs.RunLaws.{listed, zeroed_by, zeros_length, outcome_small, outcome_many, outcome_run}
 use Rattle.machine.proofs.runs.run.Goals as goal
 
@@ -19,14 +18,13 @@ returns-then-places-gt-MAX_CODE c =
     let r = c.refused-then-places-gt-MAX_CODE in
     let first = c.in-Some.ensures.cases in
     let z = zeroed_by a.cells.now first.enough first.same (c.fill.ensures.after (λ y h. h)) in
-    outcome_many code a.input.now a.budget a.out.now a.cells.now r.result first.enough (omega (arith, c.if-places-gt-MAX_CODE.true, c.code_length-places.ensures, length_instrs a.kinds.now a.levels.now a.operands.now)) r.ensures (ap (λ (l : List ℤ). l ++ drop max_cells a.cells.now) z)
+    outcome_many code a.input.now a.budget a.out.now a.cells.now r.result first.enough (omega (arith, c.if-places-gt-MAX_CODE.true, c.len-places.ensures)) r.ensures (ap (λ (l : List ℤ). l ++ drop max_cells a.cells.now) z)
 
 pub counted-requires : goal.counted-requires
 counted-requires c =
     let a = c.args in
-    let first = c.in-Some.ensures.cases in
-    let z = zeroed_by a.cells.now first.enough first.same (c.fill.ensures.after (λ y h. h)) in
-    (listed a.kinds.now a.levels.now a.operands.now c.code_length-places.ensures c.if-places-gt-MAX_CODE.false, ap length z ∙ zeros_length)
+    let code : Code = record { kinds = a.kinds.now; levels = a.levels.now; operands = a.operands.now } in
+    listed code c.len-places.ensures c.if-places-gt-MAX_CODE.false
 
 pub returns : goal.returns
 returns c =
@@ -34,4 +32,4 @@ returns c =
     let code : Code = record { kinds = a.kinds.now; levels = a.levels.now; operands = a.operands.now } in
     let first = c.in-Some.ensures.cases in
     let z = zeroed_by a.cells.now first.enough first.same (c.fill.ensures.after (λ y h. h)) in
-    outcome_run code a.input.now a.budget a.out.now a.cells.now c.counted.result first.enough (omega (arith, c.if-places-gt-MAX_CODE.false, c.code_length-places.ensures, length_instrs a.kinds.now a.levels.now a.operands.now)) (rw z at c.counted.ensures) (c.counted.auto.cells ∙ ap length z ∙ zeros_length) refl
+    outcome_run code a.input.now a.budget a.out.now a.cells.now c.counted.result first.enough (omega (arith, c.if-places-gt-MAX_CODE.false, c.len-places.ensures)) (rw z at c.counted.ensures.counted) c.counted.ensures.long refl

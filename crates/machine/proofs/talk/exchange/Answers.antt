@@ -1,14 +1,20 @@
 -- `exchange`: each kind meets its definition.
+use mathlib.Core.Path.{refl, sym, ap, ◌∙◌}
+use Prim.Native.Nat.{◌-◌, ◌<◌}
+use native.Mathlib.Omega.{arith}
+use lib.IntN.{pos}
+use lib.ListN.{length, get_or, set}
 use mir.Syntax.{w64}
-use mir.Val.{SFits}
+use mir.Val.{SFits, to_z, of_z}
 use mir.ValLaws.{to_z-of_z}
 use borrow.Author.Rules.{rules}
+use Rattle.std.proofs.lemmas.Result.{err_from_is_err_and}
 use Rattle.machine.proofs.talk.exchange.Goals as goal
 
 pub read-requires : goal.read-requires
 read-requires c =
-    let k = rw c.in-Read.is at c.requires.3 in
-    (c.requires.0, c.requires.1, c.requires.2, k.0, k.1, c.requires.4)
+    let k = rw c.in-Read.is at c.requires.2 in
+    (c.requires.0, c.requires.1, k.0, k.1, c.requires.3)
 
 pub returns-in-Write : goal.returns-in-Write
 returns-in-Write c =
