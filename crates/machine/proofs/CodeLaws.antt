@@ -1,5 +1,5 @@
 -- Laws of code: which operator a number means, and what stands at a place of a code list.
-use mathlib.Core.Path.{◌≡◌, refl, sym, ap, ◌∙◌}
+use mathlib.Core.Path.{◌≡◌, refl}
 use mathlib.Core.List.{List}
 use mathlib.Core.Option.{none, some}
 use Prim.Native.Nat.{ℕ, ◌≤◌, ◌<◌}
@@ -7,10 +7,10 @@ use native.Mathlib.Omega.{arith}
 use lib.IntN.{ℤ, pos, negsuc}
 use lib.ListN.{length, get_or}
 use borrow.Author.Tests.{lt-ltb, le-ltb}
-use Rattle.std.specs.Prelude.{Result, Ok, Err}
+use Rattle.std.specs.Prelude.{Result, Err}
 use Rattle.numbers.specs.declared.refusal.Refusal.{Refusal}
 use Rattle.numbers.specs.declared.refusal.Refusal.TheVariants.{NotAnOperation, PlaceOutside}
-use Rattle.pcode.specs.Operators.{Oper, oper_of, operator_of}
+use Rattle.pcode.specs.Operators.{Oper, operator_of}
 use Rattle.pcode.specs.Code.{Op, NIL, OPR, INT, Instr, Code, kind_of, places_in, instrs_in}
 use Rattle.pcode.specs.PlaceLaws.{length_instrs, instr_at}
 use Rattle.machine.specs.declared.frames.Frame.{Frame}

@@ -11,7 +11,7 @@ use lib.Dec.{leb}
 use lib.ListN.{length, take, drop, set}
 use lib.Seq.{length-take-le}
 use borrow.Author.Tests.{leb-true}
-use Rattle.numbers.specs.Panel.{bad_entry, output_full}
+use Rattle.numbers.specs.Panel.{output_full}
 use Rattle.numbers.specs.Limits.{max_cells}
 use Rattle.numbers.specs.Screen.{written, newline, prompt, fits_in}
 use Rattle.numbers.specs.Line.{entry}

@@ -1,15 +1,8 @@
 -- `goto`: outside the list, or at its place.
-use mathlib.Core.Path.{refl, sym, ap, ◌∙◌}
-use Prim.Native.Nat.{◌-◌, ◌<◌}
-use native.Mathlib.Omega.{arith}
-use lib.IntN.{pos}
-use lib.ListN.{length, get_or, set}
+use mathlib.Core.Path.{◌∙◌}
 use mir.Syntax.{w64}
-use mir.Val.{SFits, to_z, of_z}
 use mir.ValLaws.{to_z-of_z}
-use borrow.Author.Rules.{rules}
 use Rattle.std.proofs.lemmas.Result.{err_from_is_err_and}
-use Rattle.std.specs.Prelude.{Ok, Err}
 use Rattle.machine.proofs.StepLaws.{went_out, went_in}
 use Rattle.machine.proofs.jumps.goto.Goals as goal
 

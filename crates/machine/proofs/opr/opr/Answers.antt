@@ -1,14 +1,6 @@
 -- `opr`: the number says which operator, and each meets its definition.
-use mathlib.Core.Path.{refl, sym, ap, ◌∙◌}
-use Prim.Native.Nat.{◌-◌, ◌<◌}
-use native.Mathlib.Omega.{arith}
-use lib.IntN.{pos}
-use lib.ListN.{length, get_or, set}
 use mir.Syntax.{w64}
-use mir.Val.{SFits, to_z, of_z}
 use mir.ValLaws.{to_z-of_z}
-use borrow.Author.Rules.{rules}
-use Rattle.std.proofs.lemmas.Result.{err_from_is_err_and}
 use Rattle.numbers.specs.Arithmetic.{arith as arith_val, add, sub, mul, div, compared, equal, unequal, less, at_least, greater, at_most, negated, oddness}
 use Rattle.machine.specs.Machine.{operate}
 use Rattle.machine.proofs.StepLaws.{idle_on, line_on}

@@ -1,8 +1,8 @@
 -- `run`: too little room, too long a list, or the counted run from zeroed cells.
-use Rattle.std.proofs.Common.{refl, drop, arith, ap, ◌∙◌, ℤ, List, ◌++◌, length}
+use Rattle.std.proofs.Common.{refl, drop, arith, ap, ℤ, List, ◌++◌}
 use Rattle.numbers.specs.Limits.{max_cells}
 use Rattle.pcode.specs.Code.{Code}
-use Rattle.machine.proofs.RunLaws.{listed, zeroed_by, zeros_length, outcome_small, outcome_many, outcome_run}
+use Rattle.machine.proofs.RunLaws.{listed, zeroed_by, outcome_small, outcome_many, outcome_run}
 use Rattle.machine.proofs.runs.run.Goals as goal
 
 pub returns-in_default : goal.returns-in_default

@@ -1,14 +1,7 @@
 -- `int`: a top up to 4,096.
-use mathlib.Core.Path.{refl, sym, ap, ◌∙◌}
-use Prim.Native.Nat.{◌-◌, ◌<◌}
-use native.Mathlib.Omega.{arith}
 use lib.IntN.{pos}
-use lib.ListN.{length, get_or, set}
 use mir.Syntax.{w64}
-use mir.Val.{SFits, to_z, of_z}
 use mir.ValLaws.{to_z-of_z}
-use borrow.Author.Rules.{rules}
-use Rattle.std.proofs.lemmas.Result.{err_from_is_err_and}
 use lib.Signed.{lt_z}
 use Rattle.machine.proofs.CellLaws.{read}
 use Rattle.machine.proofs.StepLaws.{int_low, int_high, int_on}

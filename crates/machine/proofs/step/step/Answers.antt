@@ -1,14 +1,13 @@
 -- `step`: the kind says which instruction, and each meets its definition.
-use mathlib.Core.Path.{refl, sym, ap, ◌∙◌}
-use Prim.Native.Nat.{◌-◌, ◌<◌}
+use mathlib.Core.Path.{sym, ap, ◌∙◌}
+use Prim.Native.Nat.{◌<◌}
 use native.Mathlib.Omega.{arith}
 use lib.IntN.{pos}
-use lib.ListN.{length, get_or, set}
+use lib.ListN.{length, get_or}
 use mir.Syntax.{w8, w64}
-use mir.Val.{SFits, to_z, of_z}
+use mir.Val.{SFits}
 use mir.ValLaws.{to_z-of_z}
 use borrow.Author.Rules.{rules}
-use Rattle.std.proofs.lemmas.Result.{err_from_is_err_and}
 use Rattle.numbers.proofs.Bits.{plain}
 use Rattle.pcode.specs.Code.{LIT, OPR, LOD, STO, STA, CAL, INT, JMP, JPC, RED, WRT, instrs_in}
 use Rattle.pcode.specs.Coded.{op_of, lent}
