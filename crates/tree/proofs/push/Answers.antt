@@ -15,4 +15,4 @@ pub bounds-tree-used-4 : goal.bounds-tree-used-4
 bounds-tree-used-4 c = simp length-set (omega arith)
 
 pub returns : goal.returns
-returns c = (refl, four_put _ _ _ _ _ _ c.requires)
+returns c = (refl, rw (← c.number.ensures) (four_put _ _ _ _ _ _ c.requires))
