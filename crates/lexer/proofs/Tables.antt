@@ -1,19 +1,19 @@
 -- Laws of tables of spellings: a row is met or passed over, and only rows of the right length count.
 use mathlib.Core.Path.{◌≡◌, refl, sym, ◌∙◌, ap}
-use Prim.Native.Nat.{ℕ, ◌+◌, ◌≤◌, ◌<◌}
+use Prim.Native.Nat.{ℕ, ◌+◌}
 use Prim.Native.Char.{code}
 use mathlib.Core.List.{List, [], ◌∷◌}
-use mathlib.Core.Bool.{Bool, true, false}
+use mathlib.Core.Bool.{Bool, true, false, ◌&&◌}
 use mathlib.Core.Option.{none}
-use native.Mathlib.Numerals.{add-one}
 use native.Mathlib.Omega.{arith}
 use lib.Dec.{eqb}
-use lib.ListN.{length, get_or, take, drop, drop_of_length-le}
-use lib.Seq.{drop-cons}
-use borrow.Author.Tests.{eqb-false, ne_eqb, eq-eqb}
+use lib.Pointwise.{pointwise}
+use Rattle.std.proofs.lemmas.Slice.Eq.{bytes_eq-Decides}
+use lib.ListN.{length, get_or, take}
+use borrow.Author.Tests.{eqb-false, ne_eqb}
 use Rattle.numbers.specs.Bytes.{bytes, eq_list}
 use Rattle.lexer.specs.Marks.{Mark, keywords, pairs, singles, spelt}
-use Rattle.lexer.specs.Spelling.{token_of, named, sized, sign_of}
+use Rattle.lexer.specs.Spelling.{token_of, named, sign_of}
 use Rattle.lexer.specs.declared.token.Token.{Token}
 use Rattle.lexer.specs.declared.token.Token.TheVariants.{LexicalError}
 use Rattle.lexer.specs.declared.token.Lexed.{Lexed}
@@ -28,23 +28,6 @@ other_length (x ∷ a) (y ∷ b) h = by (eqb x y) refl (other_length a b (λ e. 
     by : (t : Bool) → eqb x y ≡ t → eq_list a b ≡ false → eq_list (x ∷ a) (y ∷ b) ≡ false
     by true e k = rw (e, eq_list) k
     by false e k = rw (e, eq_list)
-
--- a comparison that has come to i
-module _ (a b : List ℕ) (i : ℕ) (m : length a ≡ length b) where
-  pub same_more : i < length a → get_or a i 0 ≡ get_or b i 0 → eq_list (drop i a) (drop i b) ≡ eq_list (drop (i + 1) a) (drop (i + 1) b)
-  same_more h e =
-      let k : i < length b = omega arith in
-      rw (add-one, drop-cons a i 0 h, drop-cons b i 0 k, eq-eqb _ _ e, eq_list)
-
-  pub same_stop : i < length a → (get_or a i 0 ≡ get_or b i 0 → ⊥) → eq_list (drop i a) (drop i b) ≡ false
-  same_stop h e =
-      let k : i < length b = omega arith in
-      rw (drop-cons a i 0 h, drop-cons b i 0 k, ne_eqb _ _ e, eq_list)
-
-  pub same_past : length a ≤ i → true ≡ eq_list (drop i a) (drop i b)
-  same_past h =
-      let k : length b ≤ i = omega arith in
-      rw (drop_of_length-le a h, drop_of_length-le b k)
 
 pub spelt_none : (w : List ℕ) → spelt w [] ≡ none
 unfolding spelt
@@ -104,42 +87,37 @@ pub one_sign : (i b d : ℕ) (t : Token) → spelt (b ∷ d ∷ []) pairs ≡ no
 unfolding sign_of
 one_sign i b d t e h = rw (e, h, sign_of)
 
--- only rows of the right length count
-pub spelt_sized : (w : List ℕ) (t : List (List ℕ × Mark)) → spelt w (sized (length w) t) ≡ spelt w t
-unfolding sized spelt
-spelt_sized w [] = refl
-spelt_sized w (r ∷ rs) = by (eqb (length w) (length r.0)) (eq_list w r.0) refl refl (spelt_sized w rs)
+-- what `==` of slices answers
+same_lists : (a b : List ℕ) → pointwise eqb a b ≡ eq_list a b
+same_lists [] [] = refl
+same_lists [] (y ∷ b) = refl
+same_lists (x ∷ a) [] = refl
+same_lists (x ∷ a) (y ∷ b) = go (eqb x y) (same_lists a b)
   where
-    by : (x y : Bool) → eqb (length w) (length r.0) ≡ x → eq_list w r.0 ≡ y → spelt w (sized (length w) rs) ≡ spelt w rs → spelt w (sized (length w) (r ∷ rs)) ≡ spelt w (r ∷ rs)
-    by true true e f k = rw (e, sized) (rw (f, spelt))
-    by true false e f k = rw (e, sized) (spelt_miss w r (sized (length w) rs) f ∙ k ∙ sym (spelt_miss w r rs f))
-    by false y e f k = rw (e, sized) (k ∙ sym (spelt_miss w r rs (other_length w r.0 (eqb-false _ _ e))))
+    go : (t : Bool) {r s : Bool} → r ≡ s → (t && r) ≡ elim t [ true ↦ s | false ↦ false ]
+    go true e = e
+    go false e = refl
 
-pub named_sized : (w : List ℕ) (n : ℕ) (t : List (List ℕ × Mark)) (o : Token) → length w ≡ n → named w (sized n t) o ≡ named w t o
-unfolding named
-named_sized w n t o h = rw (← h) (rw (spelt_sized w t, named))
+-- a word that is compared with a keyword: it is that, or not
+module _ (w : List ℕ) {a k : List ℕ} {r : Bool} (is : r ≡ pointwise eqb w a) where
+  pub keyword_is : r ≡ true → a ≡ k → (o : Token) {t : Token} → t ≡ named k keywords o → t ≡ named w keywords o
+  keyword_is e q o z = let i : w ≡ k = (bytes_eq-Decides w a).0 (sym is ∙ e) ∙ q in rw i z
 
-pub sized_none : (n : ℕ) → sized n [] ≡ []
-unfolding sized
-sized_none n = refl
+  pub keyword_not : r ≡ false → a ≡ k → eq_list w k ≡ false
+  keyword_not e q = ap (eq_list w) (sym q) ∙ sym (same_lists w a) ∙ sym is ∙ e
 
--- a row of another length does not count
-pub sized_miss : (n : ℕ) (r : List ℕ × Mark) (rs : List (List ℕ × Mark)) → (n ≡ length r.0 → ⊥) → sized n (r ∷ rs) ≡ sized n rs
-unfolding sized
-sized_miss n r rs h = rw (ne_eqb _ _ h, sized)
-
--- no keyword has as many bytes
-pub no_keyword : (w : List ℕ) (o : Token) → (length w ≡ 2 → ⊥) → (length w ≡ 3 → ⊥) → (length w ≡ 4 → ⊥) → (length w ≡ 5 → ⊥) → (length w ≡ 7 → ⊥) → (length w ≡ 9 → ⊥) → named w keywords o ≡ o
-unfolding keywords bytes
-no_keyword w o h2 h3 h4 h5 h7 h9 =
-    let miss = sized_miss (length w) in
-    let e : sized (length w) keywords ≡ [] =
-    miss _ _ h2 ∙ miss _ _ h4 ∙ miss _ _ h4 ∙ miss _ _ h5 ∙ miss _ _ h2 ∙ miss _ _ h5 ∙ miss _ _ h3 ∙ miss _ _ h9 ∙ miss _ _ h7 ∙ miss _ _ h5 ∙ miss _ _ h3 ∙ miss _ _ h4 ∙ miss _ _ h4 ∙ miss _ _ h5 ∙ miss _ _ h3 ∙ sized_none _
-    in
-    sym (named_sized w (length w) keywords o refl) ∙ ap (λ t. named w t o) e ∙ named_none w o
+-- a sign of two bytes is not of one
+short : (b : ℕ) → spelt (b ∷ []) pairs ≡ none
+unfolding pairs bytes
+short b =
+    spelt_miss _ _ _ (other_length (b ∷ []) (bytes "<=") (λ e. absurd (omega (arith, e))))
+    ∙ spelt_miss _ _ _ (other_length (b ∷ []) (bytes ">=") (λ e. absurd (omega (arith, e))))
+    ∙ spelt_miss _ _ _ (other_length (b ∷ []) (bytes "<>") (λ e. absurd (omega (arith, e))))
+    ∙ spelt_miss _ _ _ (other_length (b ∷ []) (bytes ":=") (λ e. absurd (omega (arith, e))))
+    ∙ spelt_none _
 
 -- one byte alone is no sign of two, and neither is one with a 0 after it
 pub two : (b : ℕ) (s : List ℕ) → spelt (take 2 (b ∷ s)) pairs ≡ spelt (b ∷ get_or s 0 0 ∷ []) pairs
-unfolding sized spelt pairs bytes
-two b [] = sym (spelt_sized (b ∷ []) pairs) ∙ sym (no_second b 0 (eqb-false 0 _ refl) (eqb-false 0 _ refl))
+unfolding pairs bytes
+two b [] = short b ∙ sym (no_second b 0 (eqb-false 0 _ refl) (eqb-false 0 _ refl))
 two b (d ∷ s) = refl
