@@ -10,8 +10,8 @@ use numbers::limits::{DRAFT_PLACES, MAX_CODE, TABLE_PLACES, TREE_PLACES};
 use numbers::refusal::Refusal;
 use translator::Translated;
 
-// The panel's number of a text that was accepted.
-const DONE: u8 = 0;
+// "done"
+pub const DONE: u8 = 0;
 
 // Number and code length, 0 if refused.
 #[repr(C)]

@@ -6,15 +6,13 @@ ghost use Rattle.pcode.specs.Code.{Instr, nil, code_for};
 ghost use Rattle.engine.specs.Handing.{Drafts};
 
 use numbers::limits::MAX_CODE;
+use pcode::Kind;
 
 // The numbers of a drafted instruction.
 const SHARE: usize = 4;
 
 // What a number of the draft is below.
 const HALF: u64 = 1 << 32;
-
-// The kind of a place with no instruction.
-const NIL: i8 = -1;
 
 // All code places: the n drafted instructions, each operand from its two halves, and NIL 0 0 beyond them.
 pub fn hand_out(draft: &[u32], n: usize, kinds: &mut [i8], levels: &mut [u16], operands: &mut [i64])
@@ -31,7 +29,7 @@ pub fn hand_out(draft: &[u32], n: usize, kinds: &mut [i8], levels: &mut [u16], o
         levels[k] = draft[i + 1] as u16;
         operands[k] = (draft[i + 2] as u64 + HALF * draft[i + 3] as u64) as i64;
     }
-    kinds[n..MAX_CODE].fill(NIL);
+    kinds[n..MAX_CODE].fill(Kind::Nil as i8);
     levels[n..MAX_CODE].fill(0);
     operands[n..MAX_CODE].fill(0);
 }

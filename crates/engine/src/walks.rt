@@ -8,14 +8,12 @@ ghost use Rattle.outcomes.specs.Outcomes.{walk_outcome};
 ghost use Rattle.engine.specs.Walking.{refused_with, ended_of, ended_with, Leaves, walked_of};
 
 use crate::drafts::draft_text;
+use crate::entries::DONE;
 use machine::Ended;
 use numbers::limits::{DRAFT_PLACES, MAX_ROWS, TABLE_PLACES, TREE_PLACES};
 use numbers::refusal::Refusal;
 use walk::progress::Progress;
 use walk::{holds_procedure, walk_tree};
-
-// The panel's number of a walk that came to its end.
-const DONE: u8 = 0;
 
 // No step was made.
 fn refused(why: Refusal) -> Ended
