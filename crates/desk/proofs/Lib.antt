@@ -1,6 +1,3 @@
 pub mod Pages
 mod Figures
-mod Lines
-mod Spelling
-mod Counts
-mod Letters
+mod Meanings

@@ -1,23 +1,7 @@
--- `entries::line_ends` meets its contract: the ends passed and those of the rest are all of them.
-use native.Mathlib.Omega.{arith}
-use lib.ListN.{get_or}
-use Rattle.desk.proofs.Lines.{ends_more, ends_none, ends_most}
+use Rattle.std.proofs.Common.{rules, ◌≡◌, ◌≤◌, length, ℕ, ◌+◌, ◌-◌, ◌*◌, ◌<◌, ◌/◌, ◌%◌, Bool, true, false, nat_eq, nat_lt, List, [], ◌∷◌, ◌++◌, slice_index_or, slice_set, bit_and, bit_or, Fits, w8, w32, w64, Bor, MutBor}
+use Rattle.desk.specs.Entries.{line_ends, whole_in, wants_one}
 use Rattle.desk.proofs.entries.line_ends.Goals as goal
 
-pub ends-lines-requires : goal.ends-lines-requires
-ends-lines-requires c = tt
-
-pub overflow_add-lines : goal.overflow_add-lines
-overflow_add-lines c = omega (arith, c.ends-lines.ensures, ends_most (get_or c.args.s.now c.loop-i.i 0))
-
-pub loop-i-preserved : goal.loop-i-preserved
-loop-i-preserved c = (
-  omega arith,
-  (
-    omega (arith, c.ends-lines.ensures, ends_most (get_or c.args.s.now c.loop-i.i 0)),
-    omega (arith, c.loop-i.invariant.1.1, c.ends-lines.ensures, ends_more c.args.s.now c.loop-i.i (omega arith)),
-  ),
-)
-
+-- src/entries.rt:18:1
 pub returns : goal.returns
-returns c = omega (arith, c.loop-i.invariant.1.1, ends_none c.args.s.now c.loop-i.i (omega arith))
+returns c = ?
