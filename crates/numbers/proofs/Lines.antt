@@ -7,10 +7,17 @@ use native.Mathlib.Omega.{arith}
 use lib.IntN.{ℤ}
 use lib.ListN.{length, drop, length-drop, drop_of_length-le}
 use lib.Seq.{length-take-le, drop-drop}
+use Rattle.std.specs.Prelude.{Option as Maybe, None, Err}
+use Rattle.std.specs.Option.{ok_or}
+use Rattle.numbers.specs.declared.refusal.Refusal.{Refusal}
 use Rattle.numbers.specs.Bytes.{span}
 use Rattle.numbers.specs.Line.{not_newline, line, after_line, field, value_of, entry}
 use Rattle.numbers.specs.Answers.{line_entry, Took}
 use Rattle.numbers.proofs.Scans.{span_le}
+
+-- the refusal that stands for a value that is not there
+pub refused_as : {A : Type 0} (r : Maybe A) (e w : Refusal) → r ≡ None → Err e ≡ ok_or r w → e ≡ w
+refused_as r e w n h = cc (rw n at h)
 
 -- an entry is what its line means
 entry_line : (s : List ℕ) → entry s ≡ line_entry (line s)

@@ -1,11 +1,12 @@
 -- Loops that put new contents into a lent list from the front, one store a turn.
 use mathlib.Core.Path.{◌≡◌, sym, ap, ◌∙◌}
-use mathlib.Core.List.{List, [], ◌∷◌, ◌++◌}
+use mathlib.Core.List.{List, [], ◌∷◌, ◌++◌, append_assoc}
 use Prim.Native.Nat.{ℕ, zero, suc, ◌+◌, ◌-◌, ◌<◌, ◌≤◌}
 use native.Mathlib.Omega.{arith}
 use native.Mathlib.Numerals.{add-one}
 use lib.ListN.{length, get_or, set, take, drop, replicate, length-append, length-drop, length-replicate, get_or-replicate, take-append-drop}
 use lib.Seq.{length-take-le, take-append-le, take_all, take-length, get_or-append-add}
+use borrow.Rule.Slice.PartMut.{put_mid, Post-is}
 use Rattle.numbers.specs.Lent.{onto, filling}
 
 module _ {A : Type 0} where
@@ -71,3 +72,11 @@ module _ {A : Type 0} where
   -- from the first place on
   pub filling_whole : (to : ℕ) (z : A) (lent : List A) {xs : List A} → xs ≡ onto lent (filling 0 to z lent) → xs ≡ onto lent (replicate to z)
   filling_whole to z lent p = let e : to - 0 ≡ to = omega arith in p ∙ ap (λ (n : ℕ). onto lent (replicate n z)) e
+
+  -- a part of it was filled
+  pub filled_part : (from to : ℕ) (z : A) (lent : List A) {part xs : List A} → from ≤ to → to ≤ length lent
+      → part ≡ replicate (length (take (to - from) (drop from lent))) z → xs ≡ put_mid from (to - from) lent part → xs ≡ onto lent (filling from to z lent)
+  filled_part from to z lent {part} {xs} h l e p =
+      let n : length (take (to - from) (drop from lent)) ≡ to - from = length-take-le (to - from) (drop from lent) (simp length-drop (omega arith)) in
+      let whole : xs ≡ take from lent ++ (replicate (to - from) z ++ drop to lent) = rw (p, e, n, Post-is from to lent h) in
+      whole ∙ rw (filling_length from to z lent h l) (sym (append_assoc (take from lent) (replicate (to - from) z) (drop to lent)))

@@ -6,19 +6,15 @@ use native.Mathlib.Omega.{arith}
 use lib.IntN.{ℤ}
 use lib.Dec.{leb}
 use lib.ListN.{length, take, drop, length-append, length-drop}
-use lib.Seq.{drop-drop, paste, take-length, length-take-le, take_at, drop_at}
+use lib.Seq.{drop-drop, length-take-le, take_at, drop_at}
 use borrow.Author.Tests.{le-leb, leb-true}
 use borrow.Rule.Slice.PartMut.{put_mid, Post-is}
-use Rattle.numbers.specs.declared.screen.Put.{Put}
-use Rattle.numbers.specs.declared.screen.Put.TheVariants.{At, Full}
+use Rattle.std.specs.Prelude.{Result, Ok, Err}
+use Rattle.numbers.specs.declared.refusal.Refusal.{Refusal}
 use Rattle.numbers.specs.Bytes.{bytes}
 use Rattle.numbers.specs.Screen.{decimal, written}
 use Rattle.numbers.specs.Answers.{spliced, Wrote, Puts}
 use Rattle.numbers.proofs.Signs.{clash}
-
--- all of the bytes are pasted
-pub pasted : (out : List ℕ) (at : ℕ) (bs : List ℕ) (i : ℕ) → i ≡ length bs → paste out at bs i ≡ spliced out at bs
-pasted out at bs i e = rw (e, take-length bs) (append_assoc (take at out) bs (drop (at + length bs) out))
 
 -- a part that was lent is filled
 pub part_filled : (out bs : List ℕ) (at e : ℕ) → e ≡ at + length bs → put_mid at (e - at) out bs ≡ spliced out at bs
@@ -86,9 +82,9 @@ module _ {ds bs out mid after : List ℕ} {at n m : ℕ} (first : Wrote ds at ou
   }
 
 -- bytes behind others, where there is room for all
-pub put_behind : (ds bs after : List ℕ) {out mid : List ℕ} {at n : ℕ} (r : Put) → at + length (ds ++ bs) ≤ length out → Wrote ds at out mid n → Puts bs n mid after r → Puts (ds ++ bs) at out after r
-put_behind ds bs after (At m) h first second = wrote_behind first second
-put_behind ds bs after {mid = mid} {n = n} Full h first k = clash (sym (le-leb (n + length bs) (length mid) (omega (arith, h, length-append ds bs, first.next, wrote_size first))) ∙ k.full)
+pub put_behind : (ds bs after : List ℕ) {out mid : List ℕ} {at n : ℕ} (r : Result ℕ Refusal) → at + length (ds ++ bs) ≤ length out → Wrote ds at out mid n → Puts bs n mid after r → Puts (ds ++ bs) at out after r
+put_behind ds bs after (Ok m) h first second = wrote_behind first second
+put_behind ds bs after {mid = mid} {n = n} (Err e) h first (_, k) = clash (sym (le-leb (n + length bs) (length mid) (omega (arith, h, length-append ds bs, first.next, wrote_size first))) ∙ k.full)
 
 -- the room that a number takes, with its two spaces
 pub written_room : (x : ℤ) (count at room : ℕ) → count ≡ length (decimal x) → leb (at + (count + 2)) room ≡ leb (at + length (written x)) room

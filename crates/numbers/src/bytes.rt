@@ -6,45 +6,24 @@ ghost use Rattle.numbers.specs.Bytes.{is_blank, is_digit, is_letter, is_word_byt
 pub fn is_blank(b: u8) -> bool
     ensures { result ≡ is_blank b }
 {
-    if b == b' ' {
-        return true;
-    }
-    if b < b'\t' {
-        return false;
-    }
-    b <= b'\r'
+    matches!(b, b'\t'..=b'\r' | b' ')
 }
 
 pub fn is_digit(b: u8) -> bool
     ensures { result ≡ is_digit b }
 {
-    if b < b'0' {
-        return false;
-    }
-    b <= b'9'
+    b.is_ascii_digit()
 }
 
 pub fn is_letter(b: u8) -> bool
     ensures { result ≡ is_letter b }
 {
-    if b < b'A' {
-        return false;
-    }
-    if b <= b'Z' {
-        return true;
-    }
-    if b < b'a' {
-        return false;
-    }
-    b <= b'z'
+    b.is_ascii_alphabetic()
 }
 
 // "letters and digits"
 pub fn is_word_byte(b: u8) -> bool
     ensures { result ≡ is_word_byte b }
 {
-    if is_letter(b) {
-        return true;
-    }
-    is_digit(b)
+    b.is_ascii_alphanumeric()
 }

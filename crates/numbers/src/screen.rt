@@ -5,13 +5,7 @@ ghost use Rattle.numbers.specs.Screen.{decimal, written, newline, prompt};
 ghost use Rattle.numbers.specs.Answers.{Puts};
 
 use crate::arithmetic::magnitude;
-
-// Where the next bytes go; or these did not fit, and nothing is changed.
-#[derive(Clone, Copy)]
-pub enum Put {
-    At(usize),
-    Full,
-}
+use crate::refusal::Refusal;
 
 // How many spaces stand behind a number.
 const SPACES: usize = 2;
@@ -100,37 +94,28 @@ pub fn fill_decimal(part: &mut [u8], x: i64)
 pub fn has_room(room: usize, at: usize, count: usize) -> bool
     ensures { result ≡ leb (at + count) room }
 {
-    if room < at {
-        return false;
-    }
-    if room - at < count {
-        return false;
-    }
-    true
+    at <= room && count <= room - at
 }
 
-// Puts bytes at a place of the output, if they fit there.
-fn put_bytes(out: &mut [u8], at: usize, bytes: &[u8]) -> Put
+// Puts bytes at a place of the output, and tells where the next go; or they do not fit, and nothing is changed.
+fn put_bytes(out: &mut [u8], at: usize, bytes: &[u8]) -> Result<usize, Refusal>
     ensures { Puts bytes.now at out.old out.new result }
 {
     if !has_room(out.len(), at, bytes.len()) {
-        return Put::Full;
+        return Err(Refusal::OutputFull);
     }
-    let mut i = 0;
-    while i < bytes.len() {
-        out[at + i] = bytes[i];
-        i = i + 1;
-    }
-    Put::At(at + i)
+    let end = at + bytes.len();
+    out[at..end].copy_from_slice(bytes);
+    Ok(end)
 }
 
 // "Write: the decimal number and two spaces": the room for all of it is tested before the first byte.
-pub fn put_number(out: &mut [u8], at: usize, x: i64) -> Put
+pub fn put_number(out: &mut [u8], at: usize, x: i64) -> Result<usize, Refusal>
     ensures { Puts (written x) at out.old out.new result }
 {
     let count = decimal_length(x);
     if !has_room(out.len(), at, count + SPACES) {
-        return Put::Full;
+        return Err(Refusal::OutputFull);
     }
     let end = at + count;
     fill_decimal(&mut out[at..end], x);
@@ -138,14 +123,14 @@ pub fn put_number(out: &mut [u8], at: usize, x: i64) -> Put
 }
 
 // "Newline: one byte 10"
-pub fn put_newline(out: &mut [u8], at: usize) -> Put
+pub fn put_newline(out: &mut [u8], at: usize) -> Result<usize, Refusal>
     ensures { Puts newline at out.old out.new result }
 {
     put_bytes(out, at, b"\n")
 }
 
 // "Read prints `<== Please input: `"
-pub fn put_prompt(out: &mut [u8], at: usize) -> Put
+pub fn put_prompt(out: &mut [u8], at: usize) -> Result<usize, Refusal>
     ensures { Puts prompt at out.old out.new result }
 {
     put_bytes(out, at, b"<== Please input: ")

@@ -1,23 +1,19 @@
--- `bytes::is_blank` meets its contract.
-use mathlib.Core.Path.{◌≡◌, refl}
-use mathlib.Core.Bool.{Bool, true, false, ◌||◌}
-use lib.Dec.{leb}
-use borrow.Author.Tests.{le-leb, lt-leb, ne_eqb}
-use Rattle.numbers.specs.Bytes.{is_blank}
+use Rattle.numbers.specs.Bytes.{is_blank, is_digit, is_letter, is_word_byte}
+use Rattle.std.proofs.Common.{rules}
 use Rattle.numbers.proofs.bytes.is_blank.Goals as goal
 
-or-false : (b : Bool) → b ≡ (b || false)
-or-false true = refl
-or-false false = refl
+pub returns-in_default : goal.returns-in_default
+unfolding is_blank is_digit is_letter is_word_byte
+returns-in_default c = search rules
 
-pub returns-then-b-eq32 : goal.returns-then-b-eq32
-unfolding is_blank
-returns-then-b-eq32 c = rw c.if-b-eq32.true
+pub returns-in_default-2 : goal.returns-in_default-2
+unfolding is_blank is_digit is_letter is_word_byte
+returns-in_default-2 c = search rules
 
-pub returns-then-b-lt9 : goal.returns-then-b-lt9
-unfolding is_blank
-returns-then-b-lt9 c = let b = c.args.b in rw (lt-leb 9 b c.if-b-lt9.true, ne_eqb b 32 c.if-b-eq32.false)
+pub returns-in-9-to-13 : goal.returns-in-9-to-13
+unfolding is_blank is_digit is_letter is_word_byte
+returns-in-9-to-13 c = search rules
 
-pub returns : goal.returns
-unfolding is_blank
-returns c = let b = c.args.b in rw (le-leb 9 b c.if-b-lt9.false, ne_eqb b 32 c.if-b-eq32.false) (or-false (leb b 13))
+pub returns-in-9-to-13-2 : goal.returns-in-9-to-13-2
+unfolding is_blank is_digit is_letter is_word_byte
+returns-in-9-to-13-2 c = search rules

@@ -1,21 +1,7 @@
--- `bytes::is_letter` meets its contract.
-use native.Mathlib.Omega.{arith}
-use borrow.Author.Tests.{le-leb, lt-leb}
-use Rattle.numbers.specs.Bytes.{is_letter}
+use Rattle.numbers.specs.Bytes.{is_blank, is_digit, is_letter, is_word_byte}
+use Rattle.std.proofs.Common.{rules}
 use Rattle.numbers.proofs.bytes.is_letter.Goals as goal
 
-pub returns-then-b-lt65 : goal.returns-then-b-lt65
-unfolding is_letter
-returns-then-b-lt65 c = let b = c.args.b in rw (lt-leb 65 b c.if-b-lt65.true, lt-leb 97 b (omega arith))
-
-pub returns-then-b-le90 : goal.returns-then-b-le90
-unfolding is_letter
-returns-then-b-le90 c = let b = c.args.b in rw (le-leb 65 b c.if-b-lt65.false, le-leb b 90 c.if-b-le90.true)
-
-pub returns-then-b-lt97 : goal.returns-then-b-lt97
-unfolding is_letter
-returns-then-b-lt97 c = let b = c.args.b in rw (lt-leb b 90 c.if-b-le90.false, lt-leb 97 b c.if-b-lt97.true, le-leb 65 b (omega arith))
-
 pub returns : goal.returns
-unfolding is_letter
-returns c = let b = c.args.b in rw (le-leb 65 b (omega arith), lt-leb b 90 c.if-b-le90.false, le-leb 97 b c.if-b-lt97.false)
+unfolding is_blank is_digit is_letter is_word_byte
+returns c = search rules

@@ -1,16 +1,17 @@
 -- `line::line` meets its contract.
-use mathlib.Core.Path.{sym, ap}
+use mathlib.Core.Path.{refl, ap, ◌∙◌}
+use lib.Dec.{eqb}
 use lib.ListN.{take}
-use lib.Seq.{length-take-le}
+use Rattle.std.proofs.Common.{rules, tests}
+use Rattle.std.proofs.lemmas.Iterator.{YieldsList-from_slice}
+use Rattle.std.proofs.lemmas.Iterator.Search.{position_from_yields_List}
 use Rattle.numbers.specs.Line.{not_newline, line}
-use Rattle.numbers.proofs.Scans.{span_le}
+use Rattle.numbers.proofs.Scans.{until}
 use Rattle.numbers.proofs.line.line.Goals as goal
-
-pub slice_bounds-result-end : goal.slice_bounds-result-end
-slice_bounds-result-end c =
-    let s = c.args.s.now in
-    sym (length-take-le c.line_length-n.result s (rw c.line_length-n.ensures (span_le not_newline s)))
 
 pub returns : goal.returns
 unfolding line
-returns c = ap (λ n. take n c.args.s.now) c.line_length-n.ensures
+returns c =
+    let s = c.args.s.now in
+    let found = position_from_yields_List (λ b. eqb b 10) _ _ c.position.result c.position.ensures.ran (YieldsList-from_slice s (cc)) (λ x b q k. search (rules, tests)) in
+    ap (λ n. take n s) (c.unwrap_or-end.ensures ∙ until not_newline (λ b. eqb b 10) (λ b. refl) s c.position.result found)

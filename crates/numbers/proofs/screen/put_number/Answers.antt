@@ -19,11 +19,13 @@ overflow_add-count c = omega (arith, plain (λ (z : ℤ). length (decimal z)) c.
 
 pub returns-then-not-has_room : goal.returns-then-not-has_room
 returns-then-not-has_room c =
-    let count = plain (λ (z : ℤ). length (decimal z)) c.args.x c.ranges.x c.decimal_length-count.ensures in
-    record {
-      full = sym (written_room c.args.x c.decimal_length-count.result c.args.at (length c.args.out.now) count) ∙ sym c.has_room.ensures ∙ not-true _ c.if-not-has_room.true-raw;
-      same = refl;
-    }
+    let count = plain (λ (z : ℤ). length (decimal z)) c.args.x c.ranges.x c.decimal_length-count.ensures in (
+      refl,
+      record {
+        full = sym (written_room c.args.x c.decimal_length-count.result c.args.at (length c.args.out.now) count) ∙ sym c.has_room.ensures ∙ not-true _ c.if-not-has_room.true-raw;
+        same = refl;
+      },
+    )
 
 pub overflow_add-end : goal.overflow_add-end
 overflow_add-end c = omega (arith, leb-true (c.args.at + (c.decimal_length-count.result + 2)) (length c.args.out.now) (sym c.has_room.ensures ∙ not-false _ c.if-not-has_room.false-raw))
