@@ -3,7 +3,7 @@ use Rattle.std.specs.Prelude.{◌≡◌, refl, List, [], ◌∷◌, ℕ, zero, s
 use Rattle.std.proofs.Common.{sym, ap, ◌∙◌, arith}
 use Rattle.std.proofs.Math.Nat.{zero-min, min-zero, suc-min-suc, min-le_left, min-le_right}
 use Rattle.std.proofs.lemmas.List.{length-map}
-use Rattle.pcode.specs.Code.{ins, nil, kind_of, instr_in, places_in, instrs_in}
+use Rattle.pcode.specs.Code.{Code, ins, nil, kind_of, instr_in, places_in, instrs_in}
 
 -- as many as the shortest part has
 pub length_places : (ks : List ℤ) (ls : List ℕ) (os : List ℤ) → length (places_in ks ls os) ≡ min (length ks) (min (length ls) (length os))
@@ -30,6 +30,20 @@ module _ (ks : List ℤ) (ls : List ℕ) (os : List ℤ) where
 pub length_instrs : (ks : List ℤ) (ls : List ℕ) (os : List ℤ) → length (instrs_in (record { kinds = ks; levels = ls; operands = os })) ≡ length (places_in ks ls os)
 unfolding instrs_in
 length_instrs ks ls os = length-map (places_in ks ls os) instr_in
+
+-- and each part has as many at least
+module _ (c : Code) where
+  pub in_kinds : length (instrs_in c) ≤ length c.kinds
+  in_kinds = omega (arith, length_instrs c.kinds c.levels c.operands, kinds_enough c.kinds c.levels c.operands)
+
+  pub in_levels : length (instrs_in c) ≤ length c.levels
+  in_levels = omega (arith, length_instrs c.kinds c.levels c.operands, levels_enough c.kinds c.levels c.operands)
+
+  pub in_operands : length (instrs_in c) ≤ length c.operands
+  in_operands = omega (arith, length_instrs c.kinds c.levels c.operands, operands_enough c.kinds c.levels c.operands)
+
+pub count_instrs : (ks : List ℤ) (ls : List ℕ) (os : List ℤ) → length (instrs_in (record { kinds = ks; levels = ls; operands = os })) ≡ min (length ks) (min (length ls) (length os))
+count_instrs ks ls os = length_instrs ks ls os ∙ length_places ks ls os
 
 -- the instruction at a place within all three
 pub instr_at : (ks : List ℤ) (ls : List ℕ) (os : List ℤ) (i : ℕ) → i < length (places_in ks ls os)
