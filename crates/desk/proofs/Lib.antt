@@ -1,3 +1,4 @@
 pub mod Pages
 mod Figures
+mod Lines
 mod Meanings

@@ -1,7 +1,6 @@
 -- The words of the command line: what a word asks for is looked up by its spelling.
 use Rattle.std.specs.Prelude.{true, false, ◌&&◌, List, ℕ, eqb, get_or}
-use Rattle.std.specs.Prelude as answer
-use Rattle.std.proofs.Math.Option.{Option, none, some}
+use Rattle.std.proofs.Math.Option.{Option}
 use Prim.Native.Char.{code}
 use Prim.Native.String.{String}
 use Rattle.std.specs.Str.{bytes_eq}
@@ -38,11 +37,6 @@ named w = elim (eqb (get_or w 0 0) (code "-") && eqb (get_or w 1 0) (code "-")) 
 -- a later word
 unfoldable pub choice_of : List ℕ → Choice
 choice_of w = spelled w "--help" choice.Help (spelled w "--steps" choice.Steps (spelled w "--budget" choice.Budget (named w)))
-
--- a count that may be there
-abbrev pub counted : answer.Option ℕ → Option ℕ
-counted answer.None = none
-counted (answer.Some n) = some n
 
 -- the count that a word means: digits alone, up to 4,294,967,295
 unfoldable pub count_of : List ℕ → Option ℕ

@@ -1,8 +1,8 @@
 // Reading a file whole. What is read no contract can say; it lies within the room.
 ghost use Rattle.std.specs.Prelude.{◌-◌, ◌≤◌, length, IfOk};
 
-use std::io::{Error, ErrorKind, Read, Result};
 use std::fs;
+use std::io::{Error, ErrorKind, Read, Result};
 use std::rt::Files;
 
 // Reads once, behind the first `used` bytes of the room, and tells how many bytes were read.

@@ -1,6 +1,9 @@
 // The words of the command line: commands, options and the number of a budget.
 ghost use Rattle.std.specs.Prelude.{◌≡◌};
-ghost use Rattle.desk.specs.Words.{command_of, choice_of, count_of, counted};
+ghost use Rattle.numbers.specs.Answers.{option_of};
+ghost use Rattle.desk.specs.Words.{command_of, choice_of, count_of};
+
+use numbers::line::read_digits;
 
 #[derive(Clone, Copy, PartialEq, Eq)]
 pub enum Command {
@@ -65,21 +68,15 @@ pub fn choice_of(word: &[u8]) -> Choice
     }
 }
 
+// The greatest number.
+const MOST: u64 = 4294967295;
+
 // The number that a word means: digits alone, up to 4,294,967,295.
 pub fn count_of(word: &[u8]) -> Option<u32>
-    ensures { counted result ≡ count_of word.now }
+    ensures { option_of result ≡ count_of word.now }
 {
-    if word.is_empty() {
-        return None;
-    }
-    let mut value: u32 = 0;
-    for b in word {
-        if !b.is_ascii_digit() {
-            return None;
-        }
-        value = value.checked_mul(10)?.checked_add(u32::from(*b - b'0'))?;
-    }
-    Some(value)
+    let n = read_digits(word, MOST)?;
+    Some(n as u32)
 }
 
 // What the words behind the command ask for.

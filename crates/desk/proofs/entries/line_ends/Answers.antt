@@ -1,7 +1,10 @@
-use Rattle.std.proofs.Common.{rules, ◌≡◌, ◌≤◌, length, ℕ, ◌+◌, ◌-◌, ◌*◌, ◌<◌, ◌/◌, ◌%◌, Bool, true, false, nat_eq, nat_lt, List, [], ◌∷◌, ◌++◌, slice_index_or, slice_set, bit_and, bit_or, Fits, w8, w32, w64, Bor, MutBor}
-use Rattle.desk.specs.Entries.{line_ends, whole_in, wants_one}
+-- `entries::line_ends` meets its contract.
+use mathlib.Core.Path.{◌≡◌, sym, ◌∙◌}
+use lib.Dec.{eqb}
+use Rattle.std.proofs.Common.{rules}
+use Rattle.std.specs.List.{count_by}
+use Rattle.desk.proofs.Lines.{ends_counted}
 use Rattle.desk.proofs.entries.line_ends.Goals as goal
 
--- src/entries.rt:18:1
 pub returns : goal.returns
-returns c = ?
+returns c = let counted : c.count.result ≡ count_by (λ b. eqb b 10) c.args.s.now = search rules in counted ∙ sym (ends_counted c.args.s.now)

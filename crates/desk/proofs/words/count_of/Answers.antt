@@ -1,31 +1,17 @@
-use Rattle.std.proofs.Common.{rules, ◌≡◌, ℕ, ◌+◌, ◌-◌, ◌*◌, ◌<◌, ◌≤◌, length, ◌/◌, ◌%◌, Bool, true, false, nat_eq, nat_lt, List, [], ◌∷◌, ◌++◌, slice_index_or, slice_set, bit_and, bit_or, Fits, w8, w32, w64, Bor, MutBor}
-use Rattle.desk.specs.Words.{command_of, choice_of, count_of, counted}
+-- `words::count_of` meets its contract: what `read_digits` takes is at most the bound.
+use mathlib.Core.Path.{sym}
+use native.Mathlib.Omega.{arith}
+use Rattle.numbers.proofs.Fields.{magnitude_most}
+use Rattle.desk.specs.Words.{most_count, count_of}
 use Rattle.desk.proofs.words.count_of.Goals as goal
 
--- src/words.rt:73:9
-pub returns-then-is_empty : goal.returns-then-is_empty
-returns-then-is_empty c = ?
+pub returns-in_err-n : goal.returns-in_err-n
+unfolding count_of
+returns-in_err-n c = rw c.from_residual.ensures (c.in_err-n.ensures)
 
--- src/words.rt:76:5
-pub loop-b-init : goal.loop-b-init
-loop-b-init c = ?
+pub overflow_cast-result : goal.overflow_cast-result
+overflow_cast-result c = record { fits = omega (arith, magnitude_most most_count c.args.word.now c.in_ok-n.n (sym (c.in_ok-n.ensures))) }
 
--- src/words.rt:78:13
-pub returns-then-not-is_ascii_digit : goal.returns-then-not-is_ascii_digit
-returns-then-not-is_ascii_digit c = ?
-
--- src/words.rt:80:17
-pub returns-in_err-checked_mul : goal.returns-in_err-checked_mul
-returns-in_err-checked_mul c = ?
-
--- src/words.rt:80:17
-pub returns-in_err-value : goal.returns-in_err-value
-returns-in_err-value c = ?
-
--- src/words.rt:76:5
-pub loop-b-preserved : goal.loop-b-preserved
-loop-b-preserved c = ?
-
--- src/words.rt:69:1
 pub returns : goal.returns
-returns c = ?
+unfolding count_of
+returns c = c.in_ok-n.ensures

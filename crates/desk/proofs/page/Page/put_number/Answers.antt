@@ -16,8 +16,8 @@ returns c =
     let x = to_z-of_z w64 c.args.x c.ranges.x in
     let size = c.unsigned_abs.ensures.value ∙ ap nat_abs x in
     elim c.if-x-lt0.branch [
-      then-x-lt0 w ↦
-        said (ap (λ (n : ℕ). 45 ∷ count n) size ∙ number_negative c.args.x (rw x at w.if-x-lt0.true))
-        (then w.put.ensures (rw w.self-is at c.put_count.ensures))
-    | else-x-lt0 w ↦ said (ap count size ∙ number_positive c.args.x (rw x at w.if-x-lt0.false)) (rw w.self-is at c.put_count.ensures)
+      | then-x-lt0 w ↦
+          said (ap (λ (n : ℕ). 45 ∷ count n) size ∙ number_negative c.args.x (rw x at w.if-x-lt0.true))
+          (then w.put.ensures (rw w.self-is at c.put_count.ensures))
+      | else-x-lt0 w ↦ said (ap count size ∙ number_positive c.args.x (rw x at w.if-x-lt0.false)) (rw w.self-is at c.put_count.ensures)
     ]

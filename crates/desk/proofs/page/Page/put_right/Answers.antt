@@ -13,6 +13,6 @@ returns c =
     let digits = k.ensures.digits ∙ figures c.args.n k.result c.ranges.n.fits k.ensures.len in
     let size = k.ensures.in_bounds.1 ∙ ap length digits in
     elim c.if-k-lt4.branch [
-      then-k-lt4 w ↦ said (right_short c.args.n k.result size w.if-k-lt4.true) (then w.put.ensures (said digits (rw w.self-is at c.put-2.ensures)))
-    | else-k-lt4 w ↦ said (digits ∙ right_long c.args.n (omega (arith, size, w.if-k-lt4.false))) (rw w.self-is at c.put-2.ensures)
+      | then-k-lt4 w ↦ said (right_short c.args.n k.result size w.if-k-lt4.true) (then w.put.ensures (said digits (rw w.self-is at c.put-2.ensures)))
+      | else-k-lt4 w ↦ said (digits ∙ right_long c.args.n (omega (arith, size, w.if-k-lt4.false))) (rw w.self-is at c.put-2.ensures)
     ]
