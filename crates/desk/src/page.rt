@@ -1,6 +1,6 @@
 // A page: a lent slice whose first bytes are text. What is put on it goes behind them, as far as there is room, so that a
 // message of several parts is written out in one go.
-ghost use Rattle.std.specs.Prelude.{◌≡◌, ◌≤◌, length, []};
+ghost use Rattle.std.specs.Prelude.{◌≡◌, ◌+◌, ◌≤◌, length, []};
 
 // The text is the room's first `len` bytes.
 #[derive(Drop)]
@@ -18,6 +18,13 @@ impl<'a> Page<'a> {
         ensures { written result ≡ [] }
     {
         Page { room, len: 0 }
+    }
+
+    // How many bytes more there is room for.
+    pub fn left(&self) -> usize
+        ensures { result + self.now.len ≡ length self.now.room.now }
+    {
+        self.room.len() - self.len
     }
 
     // The text so far.
