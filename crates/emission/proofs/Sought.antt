@@ -1,9 +1,9 @@
 -- Laws of the names of statements, by what they find.
-use mathlib.Core.Path.{◌≡◌, refl, sym, ap, ◌∙◌}
+use mathlib.Core.Path.{◌≡◌, refl, ap, ◌∙◌}
 use mathlib.Core.Bool.{Bool, true, false}
 use mathlib.Core.List.{List}
-use mathlib.Core.Option.{Option, none, some}
-use Prim.Native.Nat.{ℕ, ◌+◌, ◌*◌, ◌≤◌}
+use mathlib.Core.Option.{Option, some}
+use Prim.Native.Nat.{ℕ, ◌+◌, ◌≤◌}
 use native.Mathlib.Omega.{arith}
 use lib.Dec.{eqb}
 use lib.ListN.{length, get_or}
@@ -22,11 +22,11 @@ use Rattle.pcode.specs.Code.{STO, CAL}
 use Rattle.symbols.specs.declared.Kind.{Kind as CodeKind}
 use Rattle.symbols.specs.declared.Kind.TheVariants.{Constant, Variable, Procedure}
 use Rattle.symbols.specs.declared.Symbol.{Symbol}
-use Rattle.symbols.specs.Symbols.{Kind, const, var, procedure, Row, find}
+use Rattle.symbols.specs.Symbols.{Kind, procedure, Row, find}
 use Rattle.symbols.specs.Table.{part, kind_for, row_of}
 use Rattle.symbols.specs.ByNumbers.{name_is}
 use Rattle.emission.specs.declared.Env.{Env as CodeEnv}
-use Rattle.emission.specs.Pieces.{Out, refuse, Piece, ◌⨾◌, refusing}
+use Rattle.emission.specs.Pieces.{refuse, Piece, ◌⨾◌, refusing}
 use Rattle.emission.specs.Statements.{Env, row_for, reach, if_var, if_proc, storing, args_code, call_code}
 use Rattle.emission.specs.Draft.{whole, Emits, refused}
 use Rattle.emission.specs.Meets.{here_of, Looks, found, missing}
