@@ -10,10 +10,10 @@ use native.Mathlib.Omega.{arith}
 use lib.Dec.{eqb}
 use lib.ListN.{length, get_or, take, drop, drop_of_length-le}
 use lib.Seq.{drop-cons}
-use borrow.Author.Tests.{eqb-false, ne_eqb, eq-eqb}
+use borrow.Author.Tests.{eqb-true, eqb-false, ne_eqb, eq-eqb}
 use Rattle.numbers.specs.Bytes.{bytes, eq_list}
 use Rattle.lexer.specs.Marks.{Mark, keywords, pairs, singles, spelt}
-use Rattle.lexer.specs.Spelling.{token_of, named, sized, sign_of}
+use Rattle.lexer.specs.Spelling.{token_of, named, sign_of}
 use Rattle.lexer.specs.declared.token.Token.{Token}
 use Rattle.lexer.specs.declared.token.Token.TheVariants.{LexicalError}
 use Rattle.lexer.specs.declared.token.Lexed.{Lexed}
@@ -104,42 +104,33 @@ pub one_sign : (i b d : ℕ) (t : Token) → spelt (b ∷ d ∷ []) pairs ≡ no
 unfolding sign_of
 one_sign i b d t e h = rw (e, h, sign_of)
 
--- only rows of the right length count
-pub spelt_sized : (w : List ℕ) (t : List (List ℕ × Mark)) → spelt w (sized (length w) t) ≡ spelt w t
-unfolding sized spelt
-spelt_sized w [] = refl
-spelt_sized w (r ∷ rs) = by (eqb (length w) (length r.0)) (eq_list w r.0) refl refl (spelt_sized w rs)
+-- lists that are found to be the same are
+equal_lists : (a b : List ℕ) → eq_list a b ≡ true → a ≡ b
+equal_lists [] [] e = refl
+equal_lists [] (y ∷ b) e = cc
+equal_lists (x ∷ a) [] e = cc
+equal_lists (x ∷ a) (y ∷ b) e = go (eqb x y) refl (equal_lists a b) e
   where
-    by : (x y : Bool) → eqb (length w) (length r.0) ≡ x → eq_list w r.0 ≡ y → spelt w (sized (length w) rs) ≡ spelt w rs → spelt w (sized (length w) (r ∷ rs)) ≡ spelt w (r ∷ rs)
-    by true true e f k = rw (e, sized) (rw (f, spelt))
-    by true false e f k = rw (e, sized) (spelt_miss w r (sized (length w) rs) f ∙ k ∙ sym (spelt_miss w r rs f))
-    by false y e f k = rw (e, sized) (k ∙ sym (spelt_miss w r rs (other_length w r.0 (eqb-false _ _ e))))
+    go : (t : Bool) → eqb x y ≡ t → (eq_list a b ≡ true → a ≡ b) → elim t [ true ↦ eq_list a b | false ↦ false ] ≡ true → (x ∷ a) ≡ (y ∷ b)
+    go true q f z = let h : x ≡ y = eqb-true x y q in let k : a ≡ b = f z in cc
+    go false q f z = cc
 
-pub named_sized : (w : List ℕ) (n : ℕ) (t : List (List ℕ × Mark)) (o : Token) → length w ≡ n → named w (sized n t) o ≡ named w t o
-unfolding named
-named_sized w n t o h = rw (← h) (rw (spelt_sized w t, named))
+-- a word that is compared with a keyword and is that
+pub keyword_is : (w k : List ℕ) {r : Bool} → r ≡ eq_list w k → r ≡ true → (o : Token) {t : Token} → t ≡ named k keywords o → t ≡ named w keywords o
+keyword_is w k is e o z = let i : w ≡ k = equal_lists w k (sym is ∙ e) in rw i z
 
-pub sized_none : (n : ℕ) → sized n [] ≡ []
-unfolding sized
-sized_none n = refl
-
--- a row of another length does not count
-pub sized_miss : (n : ℕ) (r : List ℕ × Mark) (rs : List (List ℕ × Mark)) → (n ≡ length r.0 → ⊥) → sized n (r ∷ rs) ≡ sized n rs
-unfolding sized
-sized_miss n r rs h = rw (ne_eqb _ _ h, sized)
-
--- no keyword has as many bytes
-pub no_keyword : (w : List ℕ) (o : Token) → (length w ≡ 2 → ⊥) → (length w ≡ 3 → ⊥) → (length w ≡ 4 → ⊥) → (length w ≡ 5 → ⊥) → (length w ≡ 7 → ⊥) → (length w ≡ 9 → ⊥) → named w keywords o ≡ o
-unfolding keywords bytes
-no_keyword w o h2 h3 h4 h5 h7 h9 =
-    let miss = sized_miss (length w) in
-    let e : sized (length w) keywords ≡ [] =
-    miss _ _ h2 ∙ miss _ _ h4 ∙ miss _ _ h4 ∙ miss _ _ h5 ∙ miss _ _ h2 ∙ miss _ _ h5 ∙ miss _ _ h3 ∙ miss _ _ h9 ∙ miss _ _ h7 ∙ miss _ _ h5 ∙ miss _ _ h3 ∙ miss _ _ h4 ∙ miss _ _ h4 ∙ miss _ _ h5 ∙ miss _ _ h3 ∙ sized_none _
-    in
-    sym (named_sized w (length w) keywords o refl) ∙ ap (λ t. named w t o) e ∙ named_none w o
+-- a sign of two bytes is not of one
+short : (b : ℕ) → spelt (b ∷ []) pairs ≡ none
+unfolding pairs bytes
+short b =
+    spelt_miss _ _ _ (other_length (b ∷ []) (bytes "<=") (λ e. absurd (omega (arith, e))))
+    ∙ spelt_miss _ _ _ (other_length (b ∷ []) (bytes ">=") (λ e. absurd (omega (arith, e))))
+    ∙ spelt_miss _ _ _ (other_length (b ∷ []) (bytes "<>") (λ e. absurd (omega (arith, e))))
+    ∙ spelt_miss _ _ _ (other_length (b ∷ []) (bytes ":=") (λ e. absurd (omega (arith, e))))
+    ∙ spelt_none _
 
 -- one byte alone is no sign of two, and neither is one with a 0 after it
 pub two : (b : ℕ) (s : List ℕ) → spelt (take 2 (b ∷ s)) pairs ≡ spelt (b ∷ get_or s 0 0 ∷ []) pairs
-unfolding sized spelt pairs bytes
-two b [] = sym (spelt_sized (b ∷ []) pairs) ∙ sym (no_second b 0 (eqb-false 0 _ refl) (eqb-false 0 _ refl))
+unfolding pairs bytes
+two b [] = short b ∙ sym (no_second b 0 (eqb-false 0 _ refl) (eqb-false 0 _ refl))
 two b (d ∷ s) = refl

@@ -24,10 +24,9 @@ pub struct Cursor {
 fn beyond(token: Token) -> Token
     ensures { Beyond token result }
 {
-    if let Token::EndOfText = token {
-        Token::EndOfText
-    } else {
-        Token::TooMany
+    match token {
+        Token::EndOfText => token,
+        _ => Token::TooMany,
     }
 }
 
@@ -43,32 +42,29 @@ impl Cursor {
         }
     }
 
-    // The cursor with its token looked at. `next_token` is called in two places, so that the optimiser keeps it whole and puts `look` where it is called.
+    // The cursor with its token looked at.
+    #[inline]
     pub fn look(self, text: &[u8]) -> Cursor
         ensures { Looks text.now self result }
     {
         if self.looked {
             return self;
         }
-        let at = self.at;
-        let n = self.count;
-        if n < MAX_TOKENS {
-            let l = next_token(text, at);
-            let t = l.token;
-            return Cursor {
-                token: t,
-                at: l.next,
-                count: n + 1,
+        let lexed = next_token(text, self.at);
+        if self.count < MAX_TOKENS {
+            Cursor {
+                token: lexed.token,
+                at: lexed.next,
+                count: self.count + 1,
                 looked: true,
-            };
-        }
-        let l = next_token(text, at);
-        let t = l.token;
-        Cursor {
-            token: beyond(t),
-            at: l.next,
-            count: n,
-            looked: true,
+            }
+        } else {
+            Cursor {
+                token: beyond(lexed.token),
+                at: lexed.next,
+                count: self.count,
+                looked: true,
+            }
         }
     }
 

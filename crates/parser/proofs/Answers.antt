@@ -1,26 +1,22 @@
 -- What a caller learns of a callee's answer, and how a refusal goes up.
-use mathlib.Core.Path.{◌≡◌, refl}
+use Rattle.std.specs.Prelude.{Result, Ok, Err, Option}
+use mathlib.Core.Path.{◌≡◌}
 use mathlib.Core.List.{List}
 use Prim.Native.Nat.{ℕ, zero, suc, ◌+◌, ◌*◌, ◌≤◌}
 use native.Mathlib.Omega.{arith}
 use lib.ListN.{length}
 use Rattle.numbers.specs.Limits.{tree_share}
+use Rattle.numbers.specs.declared.refusal.Refusal.{Refusal}
+use Rattle.numbers.specs.Refusals.{number_of}
 use Rattle.lexer.specs.Cursor.{Cursor as Place, Ans, refuse, Reader}
 use Rattle.lexer.specs.Marks.{Mark}
 use Rattle.lexer.specs.Stands.{Stands, taken, past, left}
 use Rattle.lexer.specs.declared.cursor.Cursor.{Cursor}
 use Rattle.tree.specs.Layout.{Nodes}
-use Rattle.parser.specs.declared.answer.Answer.{Answer}
-use Rattle.parser.specs.declared.answer.Answer.TheVariants.{Node, Nothing, Refused}
+use Rattle.parser.specs.Answer.{Answer, Node, Nothing, Refused, node_of, try_of}
 use Rattle.parser.specs.Meets.{Room, Grew, Safe, Made, Means, Meets}
-use Rattle.parser.specs.declared.see.Seen.{Seen}
-use Rattle.parser.specs.declared.see.Seen.TheVariants.{At}
-use Rattle.parser.specs.See.{Sees, Wants}
+use Rattle.parser.specs.See.{Seen, Sees, Wants}
 use Rattle.parser.proofs.Seeing.{saw, took}
-
--- the answer is no node
-abbrev pub NoNode : Answer → Type 0
-NoNode r = (e : ℕ) (d : Cursor) → r ≡ Node e d → ⊥
 
 -- a number that is large enough is no zero
 pub by_suc : (P : ℕ → Type 0) (m : ℕ) → 1 ≤ m → ((n : ℕ) → m ≤ suc n → P (suc n)) → (n : ℕ) → m ≤ n → P n
@@ -58,15 +54,15 @@ module _ {A B : Type 0} {yes : A → B} {no : B → Type 0} {nodes : A → Nodes
           room = omega (arith, p.room, grew.room);
         }
 
--- a reader that always yields a value and yields no node refuses
-module _ {A B : Type 0} {yes : A → B} {nodes : A → Nodes} {src xs : List ℕ} {u : ℕ} {ys : List ℕ} {f : ℕ → Reader B} {m spare debt : ℕ} {c : Cursor} where
-  pub passed : {A' B' : Type 0} {yes' : A' → B'} {no' : B' → Type 0} {nodes' : A' → Nodes} {xs' : List ℕ} {u' : ℕ} {f' : ℕ → Reader B'} {m' spare' debt' : ℕ} {c' : Cursor} {v s : ℕ} {zs : List ℕ}
-      → Room src zs v s c → (r : Answer) → Meets yes (λ b. ⊥) nodes src xs u ys f m spare debt c r → NoNode r → ((w : ℕ) → Refuses src f m c w → Refuses src f' m' c' w)
-      → Meets yes' no' nodes' src xs' u' ys f' m' spare' debt' c' r
-  unfolding Safe Means
-  passed p (Node e d) h o g = absurd (o e d refl)
-  passed p (Nothing d) h o g = absurd (h.means m (omega arith) p.place p.stands).empty
-  passed p (Refused w) h o g = refused (g w h.means)
+-- a reader that was refused: so is its definition
+module _ {A B : Type 0} {yes : A → B} {no : B → Type 0} {nodes : A → Nodes} {src xs : List ℕ} {u : ℕ} {ys : List ℕ} {f : ℕ → Reader B} {m spare debt : ℕ} {c : Cursor} where
+  pub node_refused : {r : Result (ℕ × Cursor) Refusal} {w : Refusal} → Meets yes no nodes src xs u ys f m spare debt c (node_of r) → r ≡ Err w → Refuses src f m c (number_of w)
+  unfolding Means
+  node_refused h e = rw e at h.means
+
+  pub try_refused : {r : Result (Option ℕ × Cursor) Refusal} {w : Refusal} → Meets yes no nodes src xs u ys f m spare debt c (try_of r) → r ≡ Err w → Refuses src f m c (number_of w)
+  unfolding Means
+  try_refused h e = rw e at h.means
 
 -- a reader that goes on as another, from where that one's cursor stands
 pub record Moved {B : Type 0} (src : List ℕ) (f : ℕ → Reader B) (m : ℕ) (c : Cursor) (a : Ans B) : Type 0 where
@@ -95,7 +91,7 @@ module _ {src xs : List ℕ} {u s : ℕ} {c : Cursor} (p : Room src xs u s c) wh
   pub room_at : {ys : List ℕ} → length ys ≡ length xs → (v t : ℕ) → v + t ≤ u + s → Room src ys v t c
   room_at q v t h = record { place = p.place; stands = p.stands; short = p.short; small = omega (arith, p.small); room = omega (arith, p.room) }
 
-  module _ {r : Seen} (h : Sees src c r) {d : Cursor} (q : r ≡ At d) where
+  module _ {r : Seen} (h : Sees src c r) {d : Cursor} (q : r ≡ Ok d) where
     pub room_seen : Room src xs u s d
     room_seen = let w = (saw h q p.place p.stands).1 in record { place = p.place; stands = w.stands; short = p.short; small = p.small; room = omega (arith, p.room, w.same) }
 
@@ -112,7 +108,7 @@ module _ {src xs : List ℕ} {u s : ℕ} {c : Cursor} (p : Room src xs u s c) wh
       pub one_fewer : suc (left t) ≡ left c
       one_fewer = rw e (saw h q p.place p.stands).1.fewer
 
-  module _ {m : Mark} {r : Seen} (h : Wants src m c r) {d : Cursor} (q : r ≡ At d) where
+  module _ {m : Mark} {r : Seen} (h : Wants src m c r) {d : Cursor} (q : r ≡ Ok d) where
     pub room_took : (v x : ℕ) → v + x ≤ u + s + tree_share → Room src xs v x d
     room_took v x l =
         let w = took h q p.place p.stands in

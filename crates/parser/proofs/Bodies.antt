@@ -1,4 +1,5 @@
 -- A statement place by its token, bodies, and the list of a body's statements.
+use Rattle.std.specs.Prelude.{Ok, Err}
 use mathlib.Core.Path.{◌≡◌, refl, sym, ap, ◌∙◌}
 use mathlib.Core.List.{List}
 use mathlib.Core.Option.{Option, none, some}
@@ -6,6 +7,8 @@ use Prim.Native.Nat.{ℕ, suc, ◌+◌, ◌*◌, ◌≤◌, ◌<◌}
 use native.Mathlib.Omega.{arith}
 use Rattle.numbers.specs.Panel.{too_many_open}
 use Rattle.numbers.specs.Limits.{max_open}
+use Rattle.numbers.specs.declared.refusal.Refusal.{Refusal}
+use Rattle.numbers.specs.Refusals.{number_of}
 use Rattle.lexer.specs.Marks.{if_word, then_word, else_word, while_word, do_word, const_word, var_word, procedure_word, program_word, begin_word, end_word, call_word, read_word, write_word, odd_word, plus_sign, minus_sign, times_sign, divide_sign, equal_sign, less_sign, greater_sign, at_most_sign, at_least_sign, unequal_sign, becomes_sign, open_sign, close_sign, semicolon_sign, comma_sign, place_of, same, listed}
 use Rattle.lexer.specs.Tokens.{Token as Word, mark, name, number, token}
 use Rattle.lexer.specs.Cursor.{Cursor as Place, got, refuse, Reader, look, take}
@@ -16,14 +19,11 @@ use Rattle.lexer.specs.declared.token.Token.TheVariants.{If, While, Call, Begin,
 use Rattle.lexer.specs.declared.cursor.Cursor.{Cursor}
 use Rattle.tree.specs.Tree.{Stmt, body, Stmts}
 use Rattle.tree.specs.Nodes.{stmt_node}
-use Rattle.parser.specs.declared.see.Seen.{Seen}
-use Rattle.parser.specs.declared.see.Seen.TheVariants.{At, Refused as Stop}
-use Rattle.parser.specs.declared.answer.Answer.{Answer}
-use Rattle.parser.specs.declared.answer.Answer.TheVariants.{Node, Nothing, Refused}
+use Rattle.parser.specs.Answer.{Answer, Node, Nothing, Refused}
 use Rattle.grammar.specs.Reader.{then}
 use Rattle.grammar.specs.Grammar.{Start, assign_start, if_start, while_start, call_start, body_start, read_start, write_start, starts, start_of, stmt, statement, body_of, stmts, map_o}
 use Rattle.parser.specs.Pieces as P
-use Rattle.parser.specs.See.{Sees, Wants, why_of}
+use Rattle.parser.specs.See.{Seen, Sees, Wants}
 use Rattle.parser.specs.Meets.{Room, Safe, Made, Quiet, Means, Tries}
 use Rattle.parser.proofs.Tokens.{kind_in, known, plain, no_identifier, no_plain}
 use Rattle.parser.proofs.Seeing.{saw, no_look, took, no_mark, enters, enters_not}
@@ -83,12 +83,12 @@ module _ (src : List ℕ) (o : ℕ) where
   stmt_deep {c} h = by_suc (λ n. (k : Place) → Stands src c k → stmt src n o k ≡ refuse too_many_open) (8 * left c + 3) (omega arith) (λ n l k s. ap (then _) (enters_not o k h))
 
   module _ (under : o < max_open) where
-    pub stmt_refused : {c : Cursor} {v : Seen} {n w : ℕ} → Sees src c v → v ≡ Stop n → w ≡ why_of v → Refuses src (λ n. stmt src n o) (8 * left c + 3) c w
+    pub stmt_refused : {c : Cursor} {v : Seen} {w : Refusal} → Sees src c v → v ≡ Err w → Refuses src (λ n. stmt src n o) (8 * left c + 3) c (number_of w)
     unfolding stmt
-    stmt_refused {c} {v} {n} {w} h e q =
-        by_suc (λ n. (k : Place) → Stands src c k → stmt src n o k ≡ refuse w) (8 * left c + 3) (omega arith) (λ n l k s. ap (then _) (enters o k under) ∙ ap (then _) (no_look h e q k s))
+    stmt_refused {c} {v} {w} h e =
+        by_suc (λ n. (k : Place) → Stands src c k → stmt src n o k ≡ refuse (number_of w)) (8 * left c + 3) (omega arith) (λ n l k s. ap (then _) (enters o k under) ∙ ap (then _) (no_look h e k s))
 
-    module _ {c d : Cursor} {v : Seen} (h : Sees src c v) (at : v ≡ At d) where
+    module _ {c d : Cursor} {v : Seen} (h : Sees src c v) (at : v ≡ Ok d) where
       -- a token that starts no statement
       pub stmt_none : ((a n : ℕ) → d.token ≡ Identifier a n → ⊥) → (d.token ≡ If → ⊥) → (d.token ≡ While → ⊥) → (d.token ≡ Call → ⊥) → (d.token ≡ Begin → ⊥) → (d.token ≡ Read → ⊥) → (d.token ≡ Write → ⊥) → {xs : List ℕ} {u : ℕ} → Room src xs u 4 c → Tries P.statement src xs u xs (λ n. stmt src n o) (8 * left c + 3) 8 0 c (Nothing d)
       unfolding begun
@@ -97,7 +97,7 @@ module _ (src : List ℕ) (o : ℕ) where
           (by_suc (λ n. (k : Place) → Stands src c k → Quiet some (λ v. v ≡ none) P.statement src xs u xs d (stmt src n o k)) (8 * left c + 3) (omega arith)
           (λ n l k s.
           let y = saw h at k s in
-          let q = (known src d.token y.0 y.1.means).1 in
+          let q = (known src d.token y.0 y.1.means) in
           let off : (n : ℕ) → (n ≡ 30 → ⊥) → (n ≡ 31 → ⊥) → (d.token ≡ plain n → ⊥) → kind_in y.0 ≡ n → ⊥ = λ n a b e z. no_plain d.token n a b e (q ∙ z) in
           let z = no_start_lem y.0 (λ e. no_identifier d.token no_id (q ∙ e)) (off 0 (λ q. omega (arith, q)) (λ q. omega (arith, q)) no_if) (off 3 (λ q. omega (arith, q)) (λ q. omega (arith, q)) no_while) (off 11 (λ q. omega (arith, q)) (λ q. omega (arith, q)) no_call) (off 9 (λ q. omega (arith, q)) (λ q. omega (arith, q)) no_begin) (off 12 (λ q. omega (arith, q)) (λ q. omega (arith, q)) no_read) (off 13 (λ q. omega (arith, q)) (λ q. omega (arith, q)) no_write) in
           record { value = none; empty = refl; at = k; is = stmt_by n k y.0 none under y.1.looks z; stands = y.1.stands; wrote = wrote_none (omega (arith, p.room)) }))
@@ -170,7 +170,7 @@ module _ (src : List ℕ) (o : ℕ) where
             a.is ∙ eqn a.fuel k ∙ ap (λ (y : ℕ). then (λ b k. got (map_o body b) k) (body_of src a.fuel y k)) (sym eq) ∙ ap (then _) (b.means a.fuel (omega (arith, a.enough)) k (saw h at k s).1.stands))
 
     -- each statement by its first token
-    module _ {c d : Cursor} {v : Seen} (h : Sees src c v) (at : v ≡ At d) where
+    module _ {c d : Cursor} {v : Seen} (h : Sees src c v) (at : v ≡ Ok d) where
       pub assign_arm : (a l : ℕ) → d.token ≡ Identifier a l → {e : Cursor} → e ≡ taken d → (o' : ℕ) → o' ≡ suc o → (n : ℕ) → 8 * left c + 3 ≤ n → (k : Place) → Stands src c k
           → Moved src (λ n. P.assigned src (name_at src a l) n o') (8 * left e + 3) e (stmt src n o k)
       unfolding statement P.assigned take start_of
@@ -203,11 +203,11 @@ module _ (src : List ℕ) (o : ℕ) where
 
   -- `begin` statements `end`
   module _ {c : Cursor} {v : Seen} (w : Wants src begin_word c v) where
-    pub body_stop : {n x : ℕ} → v ≡ Stop n → x ≡ why_of v → Refuses src (λ n. body_of src n o) (8 * left c + 1) c x
+    pub body_stop : {x : Refusal} → v ≡ Err x → Refuses src (λ n. body_of src n o) (8 * left c + 1) c (number_of x)
     unfolding body_of
-    body_stop {n} {x} e z = by_suc (λ n. (k : Place) → Stands src c k → body_of src n o k ≡ refuse x) (8 * left c + 1) (omega arith) (λ n l k s. ap (then _) (no_mark w e z k s))
+    body_stop {x} e = by_suc (λ n. (k : Place) → Stands src c k → body_of src n o k ≡ refuse (number_of x)) (8 * left c + 1) (omega arith) (λ n l k s. ap (then _) (no_mark w e k s))
 
-    module _ {t : Cursor} (at : v ≡ At t) where
+    module _ {t : Cursor} (at : v ≡ Ok t) where
       pub body_in : {x : ℕ} → Refuses src (λ n. stmts src n o) (8 * left t + 4) t x → Refuses src (λ n. body_of src n o) (8 * left c + 1) c x
       unfolding body_of
       body_in {x} z =
@@ -226,16 +226,16 @@ module _ (src : List ℕ) (o : ℕ) where
           record { value = none; empty = refl; at = x.at; is = ap (then _) y.wants ∙ ap (then _) g; stands = x.stands; wrote = x.wrote })
 
       module _ {xs ys : List ℕ} {u end : ℕ} {d : Cursor} {r : Answer} (h : Tries P.body src xs u ys (λ n. stmts src n o) (8 * left t + 4) 0 0 t r) (q : r ≡ Node end d) {v' : Seen} (w' : Wants src end_word d v') where
-        pub body_open : {n x : ℕ} → v' ≡ Stop n → x ≡ why_of v' → Refuses src (λ n. body_of src n o) (8 * left c + 1) c x
+        pub body_open : {x : Refusal} → v' ≡ Err x → Refuses src (λ n. body_of src n o) (8 * left c + 1) c (number_of x)
         unfolding body_of
-        body_open {n} {x} e z =
-            by_suc (λ n. (k : Place) → Stands src c k → body_of src n o k ≡ refuse x) (8 * left c + 1) (omega arith)
+        body_open {x} e =
+            by_suc (λ n. (k : Place) → Stands src c k → body_of src n o k ≡ refuse (number_of x)) (8 * left c + 1) (omega arith)
             (λ n l k s.
             let y = took w at k s in
             let b = made h q n (omega (arith, y.fewer)) (past src k) y.stands in
-            ap (then _) y.wants ∙ ap (then _) b.is ∙ ap (then _) (no_mark w' e z b.at b.stands))
+            ap (then _) y.wants ∙ ap (then _) b.is ∙ ap (then _) (no_mark w' e b.at b.stands))
 
-        pub body_done : {e : Cursor} → v' ≡ At e → suc (left t) ≡ left c → suc (left e) ≡ left d → Tries P.body src xs u ys (λ n. body_of src n o) (8 * left c + 1) 8 0 c (Node end e)
+        pub body_done : {e : Cursor} → v' ≡ Ok e → suc (left t) ≡ left c → suc (left e) ≡ left d → Tries P.body src xs u ys (λ n. body_of src n o) (8 * left c + 1) 8 0 c (Node end e)
         unfolding body_of Safe Means
         body_done {e} at' fw fw' =
             let g = grew h q in

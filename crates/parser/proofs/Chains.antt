@@ -1,33 +1,35 @@
 -- Operator chains: a first operand, and then operators with their operands. One set of laws for sums and for products.
+use Rattle.std.specs.Prelude.{Ok, Err, Option, Some, None}
 use mathlib.Core.Path.{◌≡◌, refl, ap, ◌∙◌}
 use mathlib.Core.List.{List}
 use mathlib.Core.Logic.{◌⊎◌, inl, inr}
 use Prim.Native.Nat.{ℕ, suc, ◌+◌, ◌*◌, ◌≤◌}
 use native.Mathlib.Omega.{arith}
 use lib.ListN.{length}
+use Rattle.numbers.specs.declared.arithmetic.Arith.{Arith as Operator}
+use Rattle.numbers.specs.Answers.{arith_of}
 use Rattle.numbers.specs.Arithmetic.{Arith}
-use Rattle.lexer.specs.Marks.{Mark, place_of}
+use Rattle.numbers.specs.declared.refusal.Refusal.{Refusal}
+use Rattle.numbers.specs.Refusals.{number_of}
+use Rattle.lexer.specs.Spelling.{token_of}
+use Rattle.lexer.specs.Marks.{Mark}
 use Rattle.lexer.specs.Cursor.{Cursor as Place, got, refuse, Reader}
-use Rattle.lexer.specs.Kinds.{kind_of}
 use Rattle.lexer.specs.Stands.{Stands, taken, past, left}
+use Rattle.lexer.specs.declared.token.Token.{Token}
 use Rattle.lexer.specs.declared.cursor.Cursor.{Cursor}
 use Rattle.tree.specs.Tree.{Exp, chain, Chain, end, link}
 use Rattle.tree.specs.Layout.{Node as Knot, member, node_no, chain_kind, count}
 use Rattle.tree.specs.Nodes.{arith_no, exp_node, chain_nodes}
 use Rattle.tree.specs.Writing.{join}
-use Rattle.parser.specs.declared.see.Seen.{Seen}
-use Rattle.parser.specs.declared.see.Seen.TheVariants.{At, Refused as Stop}
-use Rattle.parser.specs.declared.answer.Answer.{Answer}
-use Rattle.parser.specs.declared.answer.Answer.TheVariants.{Node}
+use Rattle.parser.specs.Answer.{Answer, Node}
 use Rattle.grammar.specs.Reader.{then, pure, if_next}
 use Rattle.grammar.specs.Grammar.{chained}
 use Rattle.parser.specs.Parts.{only, operand}
 use Rattle.parser.specs.Written.{Seals}
-use Rattle.parser.specs.See.{Saw, Sees, why_of, operator_of}
+use Rattle.parser.specs.See.{Seen, Saw, Sees, Joins}
 use Rattle.parser.specs.Meets.{Safe, Made, Means, Reads}
 use Rattle.parser.proofs.Seeing.{saw, no_look, next_is, next_is_not}
 use Rattle.parser.proofs.Writing.{wrote_none, wrote_more}
-use Rattle.parser.proofs.Operators.{op_is}
 use Rattle.parser.proofs.Answers.{Refuses, by_suc, grew, made}
 use Rattle.parser.proofs.Choices.{next_refused}
 use Rattle.parser.proofs.Loops.{On, Turn, Going, Ended}
@@ -50,15 +52,25 @@ pub record Chaining (src : List ℕ) (f first item : ℕ → Reader Exp) (rest :
   pub whole : (n : ℕ) (k : Place) → f (suc n) k ≡ then (λ e c. then (λ l k. got (chain e l) k) (rest n c)) (first n k)
   pub again : (n : ℕ) (k : Place) → rest (suc n) k ≡ if_next src ma (chained (item n) (rest n) (link aa)) (if_next src mb (chained (item n) (rest n) (link ab)) (pure end)) k
 
+-- whether a token is an operator
+pub joins_some : (ma mb : Mark) (aa ab : Arith) {t : Token} {v : Option Operator} {o : Operator} → Joins ma aa mb ab t v → v ≡ Some o
+    → ((t ≡ token_of ma) × (arith_of o ≡ aa)) ⊎ ((t ≡ token_of ma → ⊥) × ((t ≡ token_of mb) × (arith_of o ≡ ab)))
+unfolding Joins
+joins_some ma mb aa ab j e = rw e at j
+
+pub joins_none : (ma mb : Mark) (aa ab : Arith) {t : Token} {v : Option Operator} → Joins ma aa mb ab t v → v ≡ None → (t ≡ token_of ma → ⊥) × (t ≡ token_of mb → ⊥)
+unfolding Joins
+joins_none ma mb aa ab j e = rw e at j
+
 module _ {src : List ℕ} {f first item : ℕ → Reader Exp} {rest : ℕ → Reader Chain} (ch : Chaining src f first item rest) where
   -- the token after an operand is refused
-  pub chain_stop : {c : Cursor} {v : Seen} {n w : ℕ} → Sees src c v → v ≡ Stop n → w ≡ why_of v → Refuses src rest (8 * left c + 1) c w
-  chain_stop {c} {v} {n} {w} h e q =
-      by_suc (λ x. (k : Place) → Stands src c k → rest x k ≡ refuse w) (8 * left c + 1) (omega arith) (λ x l k s. ch.again x k ∙ next_refused src ch.ma _ _ k (no_look h e q k s))
+  pub chain_stop : {c : Cursor} {v : Seen} {n : Refusal} → Sees src c v → v ≡ Err n → Refuses src rest (8 * left c + 1) c (number_of n)
+  chain_stop {c} {v} {n} h e =
+      by_suc (λ x. (k : Place) → Stands src c k → rest x k ≡ refuse (number_of n)) (8 * left c + 1) (omega arith) (λ x l k s. ch.again x k ∙ next_refused src ch.ma _ _ k (no_look h e k s))
 
-  module _ {c d : Cursor} {v : Seen} (h : Sees src c v) (at : v ≡ At d) where
+  module _ {c d : Cursor} {v : Seen} (h : Sees src c v) (at : v ≡ Ok d) where
     -- no operator: the chain's end
-    pub chain_end : (kind_of d.token ≡ place_of ch.ma → ⊥) × (kind_of d.token ≡ place_of ch.mb → ⊥) → {ys : List ℕ} {e : ℕ} → e ≤ length ys
+    pub chain_end : (d.token ≡ token_of ch.ma → ⊥) × (d.token ≡ token_of ch.mb → ⊥) → {ys : List ℕ} {e : ℕ} → e ≤ length ys
         → (n : ℕ) → 8 * left c + 1 ≤ n → (k : Place) → Stands src c k → Ended rest chain_nodes src 1 ys e 0 ys e 0 d (rest n k)
     unfolding chain_nodes count
     chain_end o {ys} {e} fits =
@@ -75,7 +87,7 @@ module _ {src : List ℕ} {f first item : ℕ → Reader Exp} {rest : ℕ → Re
         })
 
     -- an operator, with the number op, and after it an operand
-    module _ {op : ℕ} (number : op ≡ operator_of (place_of ch.ma) (arith_no ch.aa) (place_of ch.mb) (arith_no ch.ab) (kind_of d.token)) (some : op ≡ 0 → ⊥) {t : Cursor} (took : t ≡ taken d) where
+    module _ {v' : Option Operator} (joins : Joins ch.ma ch.aa ch.mb ch.ab d.token v') {o : Operator} (some : v' ≡ Some o) {op : ℕ} (number : op ≡ arith_no (arith_of o)) {t : Cursor} (took : t ≡ taken d) where
       -- which operator it is
       pub record Linked (n : ℕ) (k : Place) : Type 0 where
         pub sign : Arith
@@ -83,14 +95,14 @@ module _ {src : List ℕ} {f first item : ℕ → Reader Exp} {rest : ℕ → Re
         pub is : rest (suc n) k ≡ chained (item n) (rest n) (link sign) (past src k)
 
       linked : (n : ℕ) (k : Place) → Stands src c k → Linked n k
-      linked n k s = go (op_is (place_of ch.ma) (arith_no ch.aa) (place_of ch.mb) (arith_no ch.ab) (kind_of d.token) op number some)
+      linked n k s = go (joins_some _ _ _ _ joins some)
         where
           p : Saw src c d k (saw h at k s).0
           p = (saw h at k s).1
 
-          go : ((kind_of d.token ≡ place_of ch.ma) × (op ≡ arith_no ch.aa)) ⊎ ((kind_of d.token ≡ place_of ch.ma → ⊥) × ((kind_of d.token ≡ place_of ch.mb) × (op ≡ arith_no ch.ab))) → Linked n k
-          go (inl (e, q)) = record { sign = ch.aa; no = q; is = ch.again n k ∙ next_is p ch.ma _ _ e }
-          go (inr (o, (e, q))) = record { sign = ch.ab; no = q; is = ch.again n k ∙ next_is_not p ch.ma _ _ o ∙ next_is p ch.mb _ _ e }
+          go : ((d.token ≡ token_of ch.ma) × (arith_of o ≡ ch.aa)) ⊎ ((d.token ≡ token_of ch.ma → ⊥) × ((d.token ≡ token_of ch.mb) × (arith_of o ≡ ch.ab))) → Linked n k
+          go (inl (e, q)) = record { sign = ch.aa; no = number ∙ ap arith_no q; is = ch.again n k ∙ next_is p ch.ma _ _ e }
+          go (inr (x, (e, q))) = record { sign = ch.ab; no = number ∙ ap arith_no q; is = ch.again n k ∙ next_is_not p ch.ma _ _ x ∙ next_is p ch.mb _ _ e }
 
       -- its operand is refused
       pub chain_operand : {m w : ℕ} → m ≤ 8 → Refuses src item (8 * left t + m) t w → Refuses src rest (8 * left c + 1) c w

@@ -1,25 +1,25 @@
 -- Lists with commas, up to the mark after them: what a turn of the loop and its end come to.
+use Rattle.std.specs.Prelude.{Ok, Err}
 use mathlib.Core.Path.{◌≡◌, refl, ap, ◌∙◌}
 use mathlib.Core.List.{List, [], ◌∷◌}
 use Prim.Native.Nat.{ℕ, suc, ◌+◌, ◌*◌, ◌≤◌}
 use native.Mathlib.Omega.{arith}
-use Rattle.lexer.specs.Marks.{Mark, comma_sign, place_of}
+use Rattle.numbers.specs.declared.refusal.Refusal.{Refusal}
+use Rattle.numbers.specs.Refusals.{number_of}
+use Rattle.lexer.specs.Marks.{Mark, comma_sign}
 use Rattle.lexer.specs.Cursor.{Cursor as Place, refuse, Reader}
-use Rattle.lexer.specs.Kinds.{kind_of}
+use Rattle.lexer.specs.Spelling.{token_of}
 use Rattle.lexer.specs.Stands.{Stands, taken, past, left}
 use Rattle.lexer.specs.declared.cursor.Cursor.{Cursor}
 use Rattle.tree.specs.Layout.{NodeKind, Node as Knot, branch, node_no, count}
 use Rattle.tree.specs.Nodes.{list_nodes}
 use Rattle.tree.specs.Reading.{sizes_least}
 use Rattle.tree.specs.Writing.{join}
-use Rattle.parser.specs.declared.see.Seen.{Seen}
-use Rattle.parser.specs.declared.see.Seen.TheVariants.{At, Refused as Stop}
-use Rattle.parser.specs.declared.answer.Answer.{Answer}
-use Rattle.parser.specs.declared.answer.Answer.TheVariants.{Node, Nothing, Refused}
+use Rattle.parser.specs.Answer.{Answer, Node, Nothing, Refused}
 use Rattle.grammar.specs.Reader.{then, commas}
 use Rattle.parser.specs.Parts.{only}
 use Rattle.parser.specs.Lists.{closed, Ended as Closing, Ends}
-use Rattle.parser.specs.See.{Sees, Wants, why_of}
+use Rattle.parser.specs.See.{Seen, Sees, Wants}
 use Rattle.parser.specs.Written.{Seals}
 use Rattle.parser.specs.Meets.{Grew, Safe, Made, Means, Reads}
 use Rattle.parser.proofs.Seeing.{saw, no_look, took, no_mark, next_is, next_is_not}
@@ -29,11 +29,11 @@ use Rattle.parser.proofs.Loops.{On, Turn, Ended}
 
 -- the mark after a list
 module _ {src : List ℕ} {m : Mark} {u kind n end : ℕ} {c : Cursor} {v : Seen} (h : Wants src m c v) where
-  pub ends_refused : {ys : List ℕ} {x w : ℕ} → v ≡ Stop x → w ≡ why_of v → Ends src m u kind n end ys ys c (Refused w)
+  pub ends_refused : {ys : List ℕ} {x : Refusal} → v ≡ Err x → Ends src m u kind n end ys ys c (Refused (number_of x))
   unfolding Closing
-  ends_refused e q = record { ended = λ k s. no_mark h e q k s }
+  ends_refused e = record { ended = λ k s. no_mark h e k s }
 
-  pub ends_node : {ys zs : List ℕ} {d : Cursor} → v ≡ At d → Seals u kind 0 n end ys zs → Ends src m u kind n end ys zs c (Node end d)
+  pub ends_node : {ys zs : List ℕ} {d : Cursor} → v ≡ Ok d → Seals u kind 0 n end ys zs → Ends src m u kind n end ys zs c (Node end d)
   unfolding Closing
   ends_node e z = record { ended = (refl, (z, λ k s. took h e k s)) }
 
@@ -57,15 +57,15 @@ module _ {A : Type 0} (src : List ℕ) (item : Reader A) (node : A → Knot) whe
 
   module _ {ys zs : List ℕ} {e f : ℕ} {c d : Cursor} (it : Member ys e zs f c d) {v : Seen} (h : Sees src d v) where
     -- the token after it is refused
-    pub comma_stop : {n w : ℕ} → v ≡ Stop n → w ≡ why_of v → Refuses src rest (8 * left c + 1) c w
+    pub comma_stop : {n : Refusal} → v ≡ Err n → Refuses src rest (8 * left c + 1) c (number_of n)
     unfolding commas
-    comma_stop {n} {w} q z =
-        by_suc (λ x. (k : Place) → Stands src c k → rest x k ≡ refuse w) (8 * left c + 1) (omega arith)
-        (λ x l k s. let b = it k s in ap (then _) b.is ∙ next_refused src comma_sign _ _ b.at (no_look h q z b.at b.stands))
+    comma_stop {n} q =
+        by_suc (λ x. (k : Place) → Stands src c k → rest x k ≡ refuse (number_of n)) (8 * left c + 1) (omega arith)
+        (λ x l k s. let b = it k s in ap (then _) b.is ∙ next_refused src comma_sign _ _ b.at (no_look h q b.at b.stands))
 
-    module _ {g : Cursor} (at : v ≡ At g) where
+    module _ {g : Cursor} (at : v ≡ Ok g) where
       -- a comma: the loop goes on
-      pub comma_turn : {spare : ℕ} {t : Cursor} → kind_of g.token ≡ place_of comma_sign → t ≡ taken g → suc (left t) ≡ left d → Grew spare 0 e c f d → Turn rest (list_nodes node) src 1 ys e c zs f t
+      pub comma_turn : {spare : ℕ} {t : Cursor} → g.token ≡ token_of comma_sign → t ≡ taken g → suc (left t) ≡ left d → Grew spare 0 e c f d → Turn rest (list_nodes node) src 1 ys e c zs f t
       unfolding commas list_nodes join count
       comma_turn {spare} {t} i q fw w = record {
         above = w.above;
@@ -90,7 +90,7 @@ module _ {A : Type 0} (src : List ℕ) (item : Reader A) (node : A → Knot) whe
       }
 
       -- no comma: that was the last
-      pub comma_end : (kind_of g.token ≡ place_of comma_sign → ⊥) → (n : ℕ) → 8 * left c + 1 ≤ n → (k : Place) → Stands src c k → Ended rest (list_nodes node) src 1 ys e 0 zs f 1 g (rest n k)
+      pub comma_end : (g.token ≡ token_of comma_sign → ⊥) → (n : ℕ) → 8 * left c + 1 ≤ n → (k : Place) → Stands src c k → Ended rest (list_nodes node) src 1 ys e 0 zs f 1 g (rest n k)
       unfolding commas list_nodes count
       comma_end i =
           by_suc (λ x. (k : Place) → Stands src c k → Ended rest (list_nodes node) src 1 ys e 0 zs f 1 g (rest x k)) (8 * left c + 1) (omega arith)

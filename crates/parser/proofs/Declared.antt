@@ -1,27 +1,27 @@
 -- Constants, variables and arguments.
+use Rattle.std.specs.Prelude.{Ok, Err}
 use mathlib.Core.Path.{◌≡◌, refl, ap, ◌∙◌}
 use mathlib.Core.List.{List, [], ◌∷◌, ◌++◌}
 use Prim.Native.Nat.{ℕ, suc, ◌+◌, ◌*◌, ◌≤◌}
 use native.Mathlib.Omega.{arith}
 use lib.ListN.{length, take as front}
-use Rattle.lexer.specs.Marks.{Mark, const_word, var_word, becomes_sign, close_sign, semicolon_sign, place_of}
+use Rattle.numbers.specs.declared.refusal.Refusal.{Refusal}
+use Rattle.numbers.specs.Refusals.{number_of}
+use Rattle.lexer.specs.Marks.{Mark, const_word, var_word, becomes_sign, close_sign, semicolon_sign}
 use Rattle.lexer.specs.Cursor.{Cursor as Place, Reader}
-use Rattle.lexer.specs.Kinds.{kind_of}
+use Rattle.lexer.specs.Spelling.{token_of}
 use Rattle.lexer.specs.Stands.{Stands, taken, past, left}
 use Rattle.lexer.specs.declared.cursor.Cursor.{Cursor}
 use Rattle.tree.specs.Layout.{NodeKind, Node as Knot, no_more, branch, literal, node_no, constant_kind, list_kind, count, size, sizes, enc, encs}
 use Rattle.tree.specs.Nodes.{name_node, names_node, const_node, consts_node, list_nodes}
 use Rattle.tree.specs.Writing.{join}
-use Rattle.parser.specs.declared.see.Seen.{Seen}
-use Rattle.parser.specs.declared.see.Seen.TheVariants.{At, Refused as Stop}
-use Rattle.parser.specs.declared.answer.Answer.{Answer}
-use Rattle.parser.specs.declared.answer.Answer.TheVariants.{Node}
+use Rattle.parser.specs.Answer.{Answer, Node}
 use Rattle.grammar.specs.Reader.{then, pure, if_next, want_name, want_number}
 use Rattle.grammar.specs.Grammar.{const_def, const_part, var_part, arg_part}
 use Rattle.parser.specs.Parts.{only}
 use Rattle.parser.specs.Lists.{closed}
 use Rattle.parser.specs.Blocks.{decls, decls_nodes}
-use Rattle.parser.specs.See.{Sees, Wants, why_of}
+use Rattle.parser.specs.See.{Seen, Sees, Wants}
 use Rattle.parser.specs.Written.{Wrote, Seals}
 use Rattle.parser.specs.Meets.{Safe, Means, Reads}
 use Rattle.parser.proofs.Seeing.{saw, no_look, took, no_mark, next_is, next_is_not}
@@ -42,11 +42,11 @@ module _ {src : List ℕ} where
   const_refused z n l k s = ap (then _) (z 0 (omega arith) k s)
 
   module _ (u : ℕ) {xs ys : List ℕ} {e : ℕ} {c d : Cursor} {r : Answer} (h : Reads (λ n. only (name_node n)) src xs (u + 4) ys (λ n. want_name src) 0 8 0 c r) (q : r ≡ Node e d) {v : Seen} (wants : Wants src becomes_sign d v) where
-    pub const_mark : {m n w : ℕ} → v ≡ Stop n → w ≡ why_of v → Refuses src (λ n. const_def src) m c w
+    pub const_mark : {m : ℕ} {n : Refusal} → v ≡ Err n → Refuses src (λ n. const_def src) m c (number_of n)
     unfolding const_def
-    const_mark i z n l k s = let b = made h q 0 (omega arith) k s in ap (then _) b.is ∙ ap (then _) (no_mark wants i z b.at b.stands)
+    const_mark i n l k s = let b = made h q 0 (omega arith) k s in ap (then _) b.is ∙ ap (then _) (no_mark wants i b.at b.stands)
 
-    module _ {t : Cursor} (at : v ≡ At t) where
+    module _ {t : Cursor} (at : v ≡ Ok t) where
       pub const_number : {m w : ℕ} → Refuses src (λ n. want_number src) 0 t w → Refuses src (λ n. const_def src) m c w
       unfolding const_def
       const_number z n l k s =
@@ -80,17 +80,17 @@ pub record Part {A : Type 0} (src : List ℕ) (m : Mark) (more part : ℕ → Re
   pub whole : (n : ℕ) (k : Place) → part n k ≡ if_next src m (more n) (pure []) k
 
 module _ {A : Type 0} {src : List ℕ} {m : Mark} {more part : ℕ → Reader (List A)} (node : A → Knot) (is : Part src m more part) where
-  pub part_stop : {c : Cursor} {v : Seen} {n w : ℕ} → Sees src c v → v ≡ Stop n → w ≡ why_of v → Refuses src part (8 * left c + 1) c w
-  part_stop h e q n l k s = is.whole n k ∙ next_refused src m _ _ k (no_look h e q k s)
+  pub part_stop : {c : Cursor} {v : Seen} {n : Refusal} → Sees src c v → v ≡ Err n → Refuses src part (8 * left c + 1) c (number_of n)
+  part_stop h e n l k s = is.whole n k ∙ next_refused src m _ _ k (no_look h e k s)
 
-  module _ {c d : Cursor} {v : Seen} (h : Sees src c v) (at : v ≡ At d) where
-    pub part_there : {t : Cursor} → t ≡ taken d → kind_of d.token ≡ place_of m → (n : ℕ) → 8 * left c + 1 ≤ n → (k : Place) → Stands src c k → Moved src more (8 * left t + 1) t (part n k)
+  module _ {c d : Cursor} {v : Seen} (h : Sees src c v) (at : v ≡ Ok d) where
+    pub part_there : {t : Cursor} → t ≡ taken d → d.token ≡ token_of m → (n : ℕ) → 8 * left c + 1 ≤ n → (k : Place) → Stands src c k → Moved src more (8 * left t + 1) t (part n k)
     part_there {t} e i n l k s =
         let p = (saw h at k s).1 in
         let f : suc (left t) ≡ left c = rw e p.fewer in
         record { fuel = n; enough = omega arith; at = past src k; stands = rw e p.beyond; is = is.whole n k ∙ next_is p m _ _ i }
 
-    pub part_none : {xs ys : List ℕ} {u e : ℕ} → (kind_of d.token ≡ place_of m → ⊥) → left d ≡ left c → u ≤ length xs → e ≡ u + 4 → front (u + 4) ys ≡ front u xs ++ (node_no list_kind ∷ 0 ∷ 0 ∷ 0 ∷ [])
+    pub part_none : {xs ys : List ℕ} {u e : ℕ} → (d.token ≡ token_of m → ⊥) → left d ≡ left c → u ≤ length xs → e ≡ u + 4 → front (u + 4) ys ≡ front u xs ++ (node_no list_kind ∷ 0 ∷ 0 ∷ 0 ∷ [])
         → Reads (λ l. only (branch list_kind 0 (list_nodes node l))) src xs u ys part (8 * left c + 1) 0 4 c (Node e d)
     unfolding Safe Means list_nodes
     part_none o f fits e l = record {
@@ -119,18 +119,18 @@ decls_join = record { joins = λ cs vs. refl }
 
 -- [names] `)`
 module _ {src : List ℕ} where
-  pub args_stop : {c : Cursor} {v : Seen} {n w : ℕ} → Sees src c v → v ≡ Stop n → w ≡ why_of v → Refuses src (λ n. arg_part src n) (8 * left c + 1) c w
+  pub args_stop : {c : Cursor} {v : Seen} {n : Refusal} → Sees src c v → v ≡ Err n → Refuses src (λ n. arg_part src n) (8 * left c + 1) c (number_of n)
   unfolding arg_part
-  args_stop h e q n l k s = next_refused src close_sign _ _ k (no_look h e q k s)
+  args_stop h e n l k s = next_refused src close_sign _ _ k (no_look h e k s)
 
-  module _ {c d : Cursor} {v : Seen} (h : Sees src c v) (at : v ≡ At d) where
-    pub args_there : (kind_of d.token ≡ place_of close_sign → ⊥) → (n : ℕ) → 8 * left c + 1 ≤ n → (k : Place) → Stands src c k → Moved src (closed src close_sign (want_name src)) (8 * left d + 1) d (arg_part src n k)
+  module _ {c d : Cursor} {v : Seen} (h : Sees src c v) (at : v ≡ Ok d) where
+    pub args_there : (d.token ≡ token_of close_sign → ⊥) → (n : ℕ) → 8 * left c + 1 ≤ n → (k : Place) → Stands src c k → Moved src (closed src close_sign (want_name src)) (8 * left d + 1) d (arg_part src n k)
     unfolding arg_part
     args_there i n l k s =
         let p = (saw h at k s).1 in
         record { fuel = n; enough = omega (arith, p.same); at = k; stands = p.stands; is = next_is_not p close_sign _ _ i }
 
-    pub args_none : {xs ys : List ℕ} {u e : ℕ} {t : Cursor} → t ≡ taken d → kind_of d.token ≡ place_of close_sign → suc (left t) ≡ left c → u ≤ length xs → e ≡ u + 4 → front (u + 4) ys ≡ front u xs ++ (node_no list_kind ∷ 0 ∷ 0 ∷ 0 ∷ [])
+    pub args_none : {xs ys : List ℕ} {u e : ℕ} {t : Cursor} → t ≡ taken d → d.token ≡ token_of close_sign → suc (left t) ≡ left c → u ≤ length xs → e ≡ u + 4 → front (u + 4) ys ≡ front u xs ++ (node_no list_kind ∷ 0 ∷ 0 ∷ 0 ∷ [])
         → Reads (λ ns. only (names_node ns)) src xs u ys (λ n. arg_part src n) (8 * left c + 1) 8 0 c (Node e t)
     unfolding arg_part Safe Means list_nodes
     args_none {xs} {ys} {u} {e} {t} z i f fits q l = record {

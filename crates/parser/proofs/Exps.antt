@@ -1,4 +1,5 @@
 -- Expressions: their definition as a chain, and the readers that are no chain.
+use Rattle.std.specs.Prelude.{Ok, Err}
 use mathlib.Core.Path.{◌≡◌, refl, sym, ap, subst, ◌∙◌}
 use mathlib.Core.Bool.{Bool, false}
 use mathlib.Core.List.{List, ◌++◌}
@@ -8,10 +9,12 @@ use lib.ListN.{length, take as front}
 use Rattle.numbers.specs.Panel.{token_missing, too_many_open}
 use Rattle.numbers.specs.Limits.{max_open}
 use Rattle.numbers.specs.Arithmetic.{add, sub, mul, div}
+use Rattle.numbers.specs.declared.refusal.Refusal.{Refusal}
+use Rattle.numbers.specs.Refusals.{number_of}
 use Rattle.lexer.specs.Marks.{Mark, plus_sign, minus_sign, times_sign, divide_sign, open_sign, close_sign, place_of, same}
 use Rattle.lexer.specs.Cursor.{Cursor as Place, got, refuse, Reader, look, take}
 use Rattle.lexer.specs.Tokens.{Name, Token as Word, mark, name, number}
-use Rattle.lexer.specs.Kinds.{kind_of}
+use Rattle.lexer.specs.Spelling.{token_of}
 use Rattle.lexer.specs.Stands.{Stands, taken, past, left}
 use Rattle.lexer.specs.Meaning.{name_at}
 use Rattle.lexer.specs.declared.token.Token.TheVariants.{ParL, Identifier, Integer}
@@ -19,15 +22,12 @@ use Rattle.lexer.specs.declared.cursor.Cursor.{Cursor}
 use Rattle.tree.specs.Tree.{Exp, lit, ref, neg, chain, link, end, brackets}
 use Rattle.tree.specs.Layout.{word, literal, enc, node_no, neg_kind, brackets_kind, count}
 use Rattle.tree.specs.Nodes.{exp_node}
-use Rattle.parser.specs.declared.see.Seen.{Seen}
-use Rattle.parser.specs.declared.see.Seen.TheVariants.{At, Refused as Stop}
-use Rattle.parser.specs.declared.answer.Answer.{Answer}
-use Rattle.parser.specs.declared.answer.Answer.TheVariants.{Node}
+use Rattle.parser.specs.Answer.{Answer, Node}
 use Rattle.grammar.specs.Reader.{then, pure, fail, enter, want, if_next}
 use Rattle.grammar.specs.Grammar.{chained, exp, terms, term, factors, factor}
 use Rattle.parser.specs.Parts.{operand, negated, signed, bracketed}
 use Rattle.parser.specs.Written.{Seals}
-use Rattle.parser.specs.See.{Sees, Wants, why_of}
+use Rattle.parser.specs.See.{Seen, Sees, Wants}
 use Rattle.parser.specs.Meets.{Safe, Made, Means, Reads}
 use Rattle.parser.proofs.Tokens.{known, no_factor_lem, no_identifier, no_integer, no_plain}
 use Rattle.parser.proofs.Seeing.{choose, saw, no_look, took, no_mark, next_is, next_is_not, enters, enters_not}
@@ -89,27 +89,27 @@ module _ (src : List ℕ) (o : ℕ) where
       }
 
   -- a sign or none, and a term
-  pub signed_refused : {c : Cursor} {v : Seen} {n w : ℕ} → Sees src c v → v ≡ Stop n → w ≡ why_of v → Refuses src (λ n. signed src n o) (8 * left c + 2) c w
+  pub signed_refused : {c : Cursor} {v : Seen} {n : Refusal} → Sees src c v → v ≡ Err n → Refuses src (λ n. signed src n o) (8 * left c + 2) c (number_of n)
   unfolding signed
-  signed_refused h e q n l k s = next_refused src plus_sign _ _ k (no_look h e q k s)
+  signed_refused h e n l k s = next_refused src plus_sign _ _ k (no_look h e k s)
 
-  module _ {c d : Cursor} {v : Seen} (h : Sees src c v) (at : v ≡ At d) where
-    pub signed_plus : {t : Cursor} → t ≡ taken d → kind_of d.token ≡ place_of plus_sign → (n : ℕ) → 8 * left c + 2 ≤ n → (k : Place) → Stands src c k → Moved src (λ n. term src n o) (8 * left t + 2) t (signed src n o k)
+  module _ {c d : Cursor} {v : Seen} (h : Sees src c v) (at : v ≡ Ok d) where
+    pub signed_plus : {t : Cursor} → t ≡ taken d → d.token ≡ token_of plus_sign → (n : ℕ) → 8 * left c + 2 ≤ n → (k : Place) → Stands src c k → Moved src (λ n. term src n o) (8 * left t + 2) t (signed src n o k)
     unfolding signed
     signed_plus {t} e i n l k s =
         let p = (saw h at k s).1 in
         let f : suc (left t) ≡ left c = rw e p.fewer in
         record { fuel = n; enough = omega arith; at = past src k; stands = rw e p.beyond; is = next_is p plus_sign _ _ i }
 
-    module _ (other : kind_of d.token ≡ place_of plus_sign → ⊥) where
-      pub signed_minus : {t : Cursor} → t ≡ taken d → kind_of d.token ≡ place_of minus_sign → (n : ℕ) → 8 * left c + 2 ≤ n → (k : Place) → Stands src c k → Moved src (λ n. negated src n o) (8 * left t + 2) t (signed src n o k)
+    module _ (other : d.token ≡ token_of plus_sign → ⊥) where
+      pub signed_minus : {t : Cursor} → t ≡ taken d → d.token ≡ token_of minus_sign → (n : ℕ) → 8 * left c + 2 ≤ n → (k : Place) → Stands src c k → Moved src (λ n. negated src n o) (8 * left t + 2) t (signed src n o k)
       unfolding signed
       signed_minus {t} e i n l k s =
           let p = (saw h at k s).1 in
           let f : suc (left t) ≡ left c = rw e p.fewer in
           record { fuel = n; enough = omega arith; at = past src k; stands = rw e p.beyond; is = next_is_not p plus_sign _ _ other ∙ next_is p minus_sign _ _ i }
 
-      pub signed_none : (kind_of d.token ≡ place_of minus_sign → ⊥) → (n : ℕ) → 8 * left c + 2 ≤ n → (k : Place) → Stands src c k → Moved src (λ n. term src n o) (8 * left d + 2) d (signed src n o k)
+      pub signed_none : (d.token ≡ token_of minus_sign → ⊥) → (n : ℕ) → 8 * left c + 2 ≤ n → (k : Place) → Stands src c k → Moved src (λ n. term src n o) (8 * left d + 2) d (signed src n o k)
       unfolding signed
       signed_none i n l k s =
           let p = (saw h at k s).1 in
@@ -122,11 +122,11 @@ module _ (src : List ℕ) (o : ℕ) where
 
   module _ (u : ℕ) {xs ys : List ℕ} {end : ℕ} {c d : Cursor} {r : Answer} (h : Reads (operand 0) src xs (u + 4) ys (λ n. exp src n o) (8 * left c + 3) 0 0 c r) (q : r ≡ Node end d)
       {v : Seen} (wants : Wants src close_sign d v) where
-    pub bracketed_open : {n w : ℕ} → v ≡ Stop n → w ≡ why_of v → Refuses src (λ n. bracketed src n o) (8 * left c + 3) c w
+    pub bracketed_open : {n : Refusal} → v ≡ Err n → Refuses src (λ n. bracketed src n o) (8 * left c + 3) c (number_of n)
     unfolding bracketed
-    bracketed_open e z n l k s = let b = made h q n l k s in ap (then _) b.is ∙ ap (then _) (no_mark wants e z b.at b.stands)
+    bracketed_open e n l k s = let b = made h q n l k s in ap (then _) b.is ∙ ap (then _) (no_mark wants e b.at b.stands)
 
-    pub bracketed_done : {op : ℕ} {zs : List ℕ} {t : Cursor} → v ≡ At t → suc (left t) ≡ left d → Seals u (node_no brackets_kind) op 1 end ys zs
+    pub bracketed_done : {op : ℕ} {zs : List ℕ} {t : Cursor} → v ≡ Ok t → suc (left t) ≡ left d → Seals u (node_no brackets_kind) op 1 end ys zs
         → Reads (operand op) src xs u zs (λ n. bracketed src n o) (8 * left c + 3) 8 0 c (Node end t)
     unfolding bracketed Safe Means exp_node count
     bracketed_done {op} {zs} {t} e f z =
@@ -146,9 +146,9 @@ module _ (src : List ℕ) (o : ℕ) where
         }
 
   -- a factor, by its token
-  pub factor_refused : {c : Cursor} {v : Seen} {n w : ℕ} → Sees src c v → v ≡ Stop n → w ≡ why_of v → Refuses src (λ n. factor src n o) (8 * left c + 1) c w
+  pub factor_refused : {c : Cursor} {v : Seen} {n : Refusal} → Sees src c v → v ≡ Err n → Refuses src (λ n. factor src n o) (8 * left c + 1) c (number_of n)
   unfolding factor
-  factor_refused {c} {v} {n} {w} h e q = by_suc (λ x. (k : Place) → Stands src c k → factor src x o k ≡ refuse w) (8 * left c + 1) (omega arith) (λ x l k s. ap (then _) (no_look h e q k s))
+  factor_refused {c} {v} {n} h e = by_suc (λ x. (k : Place) → Stands src c k → factor src x o k ≡ refuse (number_of n)) (8 * left c + 1) (omega arith) (λ x l k s. ap (then _) (no_look h e k s))
 
   -- once the word is known
   at_name : (x : Name) (n : ℕ) (k : Place) → look src k ≡ got (name x) k → factor src (suc n) o k ≡ got (ref x) (past src k)
@@ -167,14 +167,14 @@ module _ (src : List ℕ) (o : ℕ) where
   unfolding factor choose
   at_other m q n k h = ap (then _) h ∙ ap (λ (b : Bool). choose b (λ c. then (λ u c. then (λ u c. then (λ e c. then (λ u c. got (brackets e) c) (want src close_sign c)) (exp src n (suc o) c)) (take src c)) (enter o c)) (fail token_missing) k) q
 
-  module _ {c d : Cursor} {v : Seen} (h : Sees src c v) (at : v ≡ At d) where
+  module _ {c d : Cursor} {v : Seen} (h : Sees src c v) (at : v ≡ Ok d) where
     -- a token that starts no factor
     pub factor_other : ((a n : ℕ) → d.token ≡ Identifier a n → ⊥) → ((v : ℕ) → d.token ≡ Integer v → ⊥) → (d.token ≡ ParL → ⊥) → Refuses src (λ n. factor src n o) (8 * left c + 1) c token_missing
     factor_other f g i =
         by_suc (λ x. (k : Place) → Stands src c k → factor src x o k ≡ refuse token_missing) (8 * left c + 1) (omega arith)
         (λ x l k s.
         let p = saw h at k s in
-        let y = (known src d.token p.0 p.1.means).1 in
+        let y = (known src d.token p.0 p.1.means) in
         let z = no_factor_lem p.0 (λ e. no_identifier d.token f (y ∙ e)) (λ e. no_integer d.token g (y ∙ e)) (λ e. no_plain d.token 26 (λ q. omega (arith, q)) (λ q. omega (arith, q)) i (y ∙ e)) in
         at_other z.0 z.1.1 x k (subst (λ (w : Word). look src k ≡ got w k) z.1.0 p.1.looks))
 

@@ -1,34 +1,33 @@
 -- Statements that hold statements, and bodies.
+use Rattle.std.specs.Prelude.{Ok, Err, Option as Perhaps}
 use mathlib.Core.Path.{◌≡◌, refl, sym, ap, ◌∙◌}
 use mathlib.Core.List.{List}
 use mathlib.Core.Option.{Option, none, some}
 use Prim.Native.Nat.{ℕ, suc, ◌+◌, ◌*◌, ◌≤◌}
 use native.Mathlib.Omega.{arith}
-use Rattle.lexer.specs.Marks.{then_word, else_word, do_word, place_of}
+use Rattle.numbers.specs.declared.refusal.Refusal.{Refusal}
+use Rattle.numbers.specs.Refusals.{number_of}
+use Rattle.lexer.specs.Marks.{then_word, else_word, do_word}
 use Rattle.lexer.specs.Cursor.{Cursor as Place, got}
-use Rattle.lexer.specs.Kinds.{kind_of}
+use Rattle.lexer.specs.Spelling.{token_of}
 use Rattle.lexer.specs.Stands.{Stands, taken, past, left}
 use Rattle.lexer.specs.declared.cursor.Cursor.{Cursor}
 use Rattle.tree.specs.Tree.{Cond, Stmt, if_then, if_else, while}
 use Rattle.tree.specs.Layout.{member, node_no, if_kind, while_kind, count}
 use Rattle.tree.specs.Nodes.{cond_node, stmt_node}
 use Rattle.tree.specs.Writing.{join}
-use Rattle.parser.specs.declared.see.Seen.{Seen}
-use Rattle.parser.specs.declared.see.Seen.TheVariants.{At, Refused as Stop}
-use Rattle.parser.specs.declared.answer.Answer.{Answer}
-use Rattle.parser.specs.declared.answer.Answer.TheVariants.{Node, Nothing, Refused}
+use Rattle.parser.specs.Answer.{Answer, Node, Nothing, try_of}
 use Rattle.grammar.specs.Reader.{then, if_next}
 use Rattle.grammar.specs.Grammar.{cond, stmt, if_node, map_o}
 use Rattle.parser.specs.Parts.{condition}
 use Rattle.parser.specs.Pieces.{statement, looped, conditional, else_part}
 use Rattle.parser.specs.Written.{Wrote, Seals}
-use Rattle.parser.specs.See.{Sees, Wants, why_of}
+use Rattle.parser.specs.See.{Seen, Sees, Wants}
 use Rattle.parser.specs.Meets.{Room, Safe, Means, Reads, Tries}
-use Rattle.parser.specs.Quiet.{quieted_of}
 use Rattle.parser.proofs.Seeing.{saw, no_look, took, no_mark, next_is, next_is_not}
 use Rattle.parser.proofs.Writing.{wrote_none, wrote_more, wrote_kept}
-use Rattle.parser.proofs.Answers.{Refuses, refused, grew, made, Moved}
-use Rattle.parser.proofs.Tries.{quiet, quiet_left, Quietly, nothing}
+use Rattle.parser.proofs.Answers.{Refuses, grew, made, Moved}
+use Rattle.parser.proofs.Tries.{quiet, quiet_left, try_left, went, Quietly, nothing}
 use Rattle.parser.proofs.Choices.{then_same, next_refused, next_then}
 
 -- nothing stays nothing
@@ -44,11 +43,11 @@ module _ (src : List ℕ) (o : ℕ) where
 
   module _ (u : ℕ) {xs ys : List ℕ} {i : ℕ} {c d : Cursor} {r : Answer} (h : Reads condition src xs (u + 4) ys (λ n. cond src n o) (8 * left c + 3) 8 0 c r) (q : r ≡ Node i d) {v : Seen} where
     module _ (w : Wants src do_word d v) where
-      pub looped_stop : {n x : ℕ} → v ≡ Stop n → x ≡ why_of v → Refuses src (λ n. looped src n o) (8 * left c + 3) c x
+      pub looped_stop : {n : Refusal} → v ≡ Err n → Refuses src (λ n. looped src n o) (8 * left c + 3) c (number_of n)
       unfolding looped
-      looped_stop e z n l k s = let b = made h q n l k s in ap (then _) b.is ∙ ap (then _) (no_mark w e z b.at b.stands)
+      looped_stop e n l k s = let b = made h q n l k s in ap (then _) b.is ∙ ap (then _) (no_mark w e b.at b.stands)
 
-      module _ {t : Cursor} (at : v ≡ At t) (less : suc (left t) ≡ left d) where
+      module _ {t : Cursor} (at : v ≡ Ok t) (less : suc (left t) ≡ left d) where
         pub looped_in : {x : ℕ} → Refuses src (λ n. stmt src n o) (8 * left t + 3) t x → Refuses src (λ n. looped src n o) (8 * left c + 3) c x
         unfolding looped
         looped_in z n l k s =
@@ -94,18 +93,18 @@ module _ (src : List ℕ) (o : ℕ) where
             }
 
   -- [`else` st]
-  pub else_refused : {c : Cursor} {v : Seen} {n w : ℕ} → Sees src c v → v ≡ Stop n → w ≡ why_of v → Refuses src (λ n. else_part src n o) (8 * left c + 3) c w
+  pub else_refused : {c : Cursor} {v : Seen} {n : Refusal} → Sees src c v → v ≡ Err n → Refuses src (λ n. else_part src n o) (8 * left c + 3) c (number_of n)
   unfolding else_part
-  else_refused h e q n l k s = next_refused src else_word _ _ k (no_look h e q k s)
+  else_refused h e n l k s = next_refused src else_word _ _ k (no_look h e k s)
 
-  module _ {c d : Cursor} {v : Seen} (h : Sees src c v) (at : v ≡ At d) where
-    pub else_absent : (kind_of d.token ≡ place_of else_word → ⊥) → {xs : List ℕ} {u : ℕ} → Room src xs u 0 c → Tries statement src xs u xs (λ n. else_part src n o) (8 * left c + 3) 8 0 c (Nothing d)
+  module _ {c d : Cursor} {v : Seen} (h : Sees src c v) (at : v ≡ Ok d) where
+    pub else_absent : (d.token ≡ token_of else_word → ⊥) → {xs : List ℕ} {u : ℕ} → Room src xs u 0 c → Tries statement src xs u xs (λ n. else_part src n o) (8 * left c + 3) 8 0 c (Nothing d)
     unfolding else_part
     else_absent i p =
         nothing (omega (arith, (saw h at p.place p.stands).1.same))
         (λ n l k s. let y = (saw h at k s).1 in record { value = none; empty = refl; at = k; is = next_is_not y else_word _ _ i; stands = y.stands; wrote = wrote_none (omega (arith, p.room)) })
 
-    pub else_there : {t : Cursor} → t ≡ taken d → kind_of d.token ≡ place_of else_word → (n : ℕ) → 8 * left c + 3 ≤ n → (k : Place) → Stands src c k → Moved src (λ n. stmt src n o) (8 * left t + 3) t (else_part src n o k)
+    pub else_there : {t : Cursor} → t ≡ taken d → d.token ≡ token_of else_word → (n : ℕ) → 8 * left c + 3 ≤ n → (k : Place) → Stands src c k → Moved src (λ n. stmt src n o) (8 * left t + 3) t (else_part src n o k)
     unfolding else_part
     else_there {t} e i n l k s =
         let p = (saw h at k s).1 in
@@ -123,11 +122,11 @@ module _ (src : List ℕ) (o : ℕ) where
   if_refused z n l k s = ap (then _) (z n l k s)
 
   module _ (u : ℕ) {xs ys : List ℕ} {i : ℕ} {c d : Cursor} {r : Answer} (h : Reads condition src xs (u + 4) ys (λ n. cond src n o) (8 * left c + 3) 8 0 c r) (q : r ≡ Node i d) {v : Seen} (w : Wants src then_word d v) where
-    pub if_stop : {n x : ℕ} → v ≡ Stop n → x ≡ why_of v → Refuses src (λ n. conditional src n o) (8 * left c + 3) c x
+    pub if_stop : {n : Refusal} → v ≡ Err n → Refuses src (λ n. conditional src n o) (8 * left c + 3) c (number_of n)
     unfolding conditional
-    if_stop e z n l k s = let b = made h q n l k s in ap (then _) b.is ∙ ap (then _) (no_mark w e z b.at b.stands)
+    if_stop e n l k s = let b = made h q n l k s in ap (then _) b.is ∙ ap (then _) (no_mark w e b.at b.stands)
 
-    module _ {t : Cursor} (at : v ≡ At t) (less : suc (left t) ≡ left d) where
+    module _ {t : Cursor} (at : v ≡ Ok t) (less : suc (left t) ≡ left d) where
       -- after `then`
       record Then (n : ℕ) (k : Place) : Type 0 where
         pub test : Cond
@@ -156,43 +155,30 @@ module _ (src : List ℕ) (o : ℕ) where
 
       module _ {zs : List ℕ} {p : Answer} (hs : Tries statement src ys i zs (λ n. stmt src n o) (8 * left t + 3) 8 0 t p) where
         -- the then part yields nothing: so does the whole, and the else part is read
-        pub if_quiet : {e : Cursor} → p ≡ Nothing e → {ws : List ℕ} (r' : Answer) → Tries statement src zs i ws (λ n. else_part src n o) (8 * left e + 3) 8 0 e r'
-            → Tries statement src xs u ws (λ n. conditional src n o) (8 * left c + 3) 8 0 c (quieted_of r')
-        unfolding Safe Means if_node
-        if_quiet {e} z {ws} (Node j f) he =
-            nothing (omega (arith, (grew he refl).fewer, quiet_left hs z, (grew h q).fewer))
-            (λ n l k s.
-            let b = then_at n l k s in
-            let x = quiet hs z n b.enough b.place b.stands in
-            let y = made he refl n (omega (arith, b.enough, quiet_left hs z)) x.at x.stands in
-            record {
-              value = if_node b.test x.value (some y.value);
-              empty = ap (λ (a : Option Stmt). if_node b.test a (some y.value)) x.empty;
-              at = y.at;
-              is = b.is ∙ ap (then _) x.is ∙ ap (then _) y.is;
-              stands = y.stands;
-              wrote = wrote_kept u (omega arith) (wrote_more b.wrote (wrote_more x.wrote y.wrote));
-            })
-        if_quiet {e} z {ws} (Nothing f) he =
-            nothing (omega (arith, he.safe, quiet_left hs z, (grew h q).fewer))
-            (λ n l k s.
-            let b = then_at n l k s in
-            let x = quiet hs z n b.enough b.place b.stands in
-            let y = quiet he refl n (omega (arith, b.enough, quiet_left hs z)) x.at x.stands in
-            record {
-              value = if_node b.test x.value y.value;
-              empty = ap (λ (a : Option Stmt). if_node b.test a y.value) x.empty;
-              at = y.at;
-              is = b.is ∙ ap (then _) x.is ∙ ap (then _) y.is;
-              stands = y.stands;
-              wrote = wrote_kept u (omega arith) (wrote_more b.wrote (wrote_more x.wrote y.wrote));
-            })
-        if_quiet {e} z {ws} (Refused m) he =
-            refused
-            (λ n l k s.
-            let b = then_at n l k s in
-            let x = quiet hs z n b.enough b.place b.stands in
-            b.is ∙ ap (then _) x.is ∙ ap (then _) (he.means n (omega (arith, b.enough, quiet_left hs z)) x.at x.stands))
+        module _ {e : Cursor} (z : p ≡ Nothing e) where
+          pub if_quiet_in : {x : ℕ} → Refuses src (λ n. else_part src n o) (8 * left e + 3) e x → Refuses src (λ n. conditional src n o) (8 * left c + 3) c x
+          if_quiet_in y n l k s =
+              let b = then_at n l k s in
+              let x = quiet hs z n b.enough b.place b.stands in
+              b.is ∙ ap (then _) x.is ∙ ap (then _) (y n (omega (arith, b.enough, quiet_left hs z)) x.at x.stands)
+
+          pub if_quiet : {ws : List ℕ} (j : Perhaps ℕ) {f : Cursor} → Tries statement src zs i ws (λ n. else_part src n o) (8 * left e + 3) 8 0 e (try_of (Ok (j, f)))
+              → Tries statement src xs u ws (λ n. conditional src n o) (8 * left c + 3) 8 0 c (Nothing f)
+          unfolding if_node
+          if_quiet j {f} he =
+              nothing (omega (arith, try_left j f he, quiet_left hs z, (grew h q).fewer))
+              (λ n l k s.
+              let b = then_at n l k s in
+              let x = quiet hs z n b.enough b.place b.stands in
+              let y = went j he n (omega (arith, b.enough, quiet_left hs z)) x.at x.stands in
+              record {
+                value = if_node b.test x.value y.value;
+                empty = ap (λ (a : Option Stmt). if_node b.test a y.value) x.empty;
+                at = y.at;
+                is = b.is ∙ ap (then _) x.is ∙ ap (then _) y.is;
+                stands = y.stands;
+                wrote = wrote_kept u (omega arith) (wrote_more b.wrote (wrote_more x.wrote y.wrote));
+              })
 
         -- the then part is there
         module _ {j : ℕ} {e : Cursor} (z : p ≡ Node j e) where

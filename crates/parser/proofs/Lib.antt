@@ -1,7 +1,6 @@
 pub mod Tokens
 pub mod Seeing
 pub mod Writing
-pub mod Operators
 pub mod Answers
 pub mod Loops
 pub mod Choices
@@ -14,6 +13,7 @@ pub mod Sequences
 pub mod Declared
 pub mod Conds
 pub mod Tries
+pub mod Exits
 pub mod Flows
 pub mod Procs
 pub mod Bodies

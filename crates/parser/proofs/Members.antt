@@ -1,4 +1,5 @@
 -- The list of a body's statements: the loop that reads it, and how it is read on after a member that yields nothing.
+use Rattle.std.specs.Prelude.{Ok, Err, Option as Perhaps}
 use mathlib.Core.Path.{◌≡◌, refl, sym, ap, subst, ◌∙◌}
 use mathlib.Core.List.{List}
 use mathlib.Core.Option.{Option, none, some}
@@ -6,9 +7,11 @@ use Prim.Native.Nat.{ℕ, suc, ◌+◌, ◌*◌, ◌≤◌}
 use native.Mathlib.Omega.{arith}
 use lib.ListN.{length}
 use Rattle.numbers.specs.Limits.{tree_share}
-use Rattle.lexer.specs.Marks.{semicolon_sign, place_of}
-use Rattle.lexer.specs.Cursor.{Cursor as Place, Ans, got, refuse, Reader}
-use Rattle.lexer.specs.Kinds.{kind_of}
+use Rattle.numbers.specs.declared.refusal.Refusal.{Refusal}
+use Rattle.numbers.specs.Refusals.{number_of}
+use Rattle.lexer.specs.Marks.{semicolon_sign}
+use Rattle.lexer.specs.Cursor.{Cursor as Place, Ans, got, refuse}
+use Rattle.lexer.specs.Spelling.{token_of}
 use Rattle.lexer.specs.Stands.{Stands, taken, past, left}
 use Rattle.lexer.specs.declared.cursor.Cursor.{Cursor}
 use Rattle.tree.specs.Tree.{Stmt, Stmts, last, more}
@@ -16,22 +19,18 @@ use Rattle.tree.specs.Layout.{Nodes, no_more, node_no, body_kind, count}
 use Rattle.tree.specs.Nodes.{stmt_nodes}
 use Rattle.tree.specs.Reading.{sizes_least}
 use Rattle.tree.specs.Writing.{join, join_join, count_join}
-use Rattle.parser.specs.declared.see.Seen.{Seen}
-use Rattle.parser.specs.declared.see.Seen.TheVariants.{At, Refused as Stop}
-use Rattle.parser.specs.declared.answer.Answer.{Answer}
-use Rattle.parser.specs.declared.answer.Answer.TheVariants.{Node, Nothing, Refused}
+use Rattle.parser.specs.Answer.{Answer, Node, Nothing, Refused, try_of}
 use Rattle.grammar.specs.Reader.{then, if_next}
 use Rattle.grammar.specs.Grammar.{stmt, stmts, both, map_o}
 use Rattle.parser.specs.Pieces as P
 use Rattle.parser.specs.Pieces.{quiet_rest, Quiets}
-use Rattle.parser.specs.Quiet.{passed_of}
 use Rattle.parser.specs.Written.{Wrote, Seals}
-use Rattle.parser.specs.See.{Sees, why_of}
+use Rattle.parser.specs.See.{Seen, Sees}
 use Rattle.parser.specs.Meets.{Room, Safe, Made, Quiet, Means, Tries}
 use Rattle.parser.proofs.Seeing.{saw, no_look, next_is, next_is_not}
 use Rattle.parser.proofs.Writing.{wrote_none, wrote_more, wrote_kept}
 use Rattle.parser.proofs.Answers.{Refuses, by_suc, refused, grew, made}
-use Rattle.parser.proofs.Tries.{quiet, quiet_left, Quietly, nothing}
+use Rattle.parser.proofs.Tries.{quiet, quiet_left, try_left, went, Quietly, nothing}
 use Rattle.parser.proofs.Choices.{then_same, then_then, next_refused, next_then, next_same}
 
 -- the list with what came before it; nothing stays nothing
@@ -130,9 +129,9 @@ module _ (src : List ℕ) (o : ℕ) where
         let x = made h q (8 * left c + 3) (omega arith) b.place b.stands in
         omega (arith, g.few, x.wrote.ends, sizes_least (P.statement x.value))
 
-    module _ {zs : List ℕ} {f : ℕ} {d : Cursor} {r : Answer} (h : Tries P.statement src ys e zs (λ n. stmt src n o) (8 * left c + 3) 8 0 c r) (q : r ≡ Node f d) {v : Seen} (y : Sees src d v) {t : Cursor} (at : v ≡ At t) where
+    module _ {zs : List ℕ} {f : ℕ} {d : Cursor} {r : Answer} (h : Tries P.statement src ys e zs (λ n. stmt src n o) (8 * left c + 3) 8 0 c r) (q : r ≡ Node f d) {v : Seen} (y : Sees src d v) {t : Cursor} (at : v ≡ Ok t) where
       -- `;`: the loop goes on
-      pub members_more : kind_of t.token ≡ place_of semicolon_sign → {t' : Cursor} → t' ≡ taken t → suc (left t') ≡ left d → length zs ≡ length ys → {s : ℕ} → Room src xs u s c₀ → Going xs u c₀ zs f (total + 1) t'
+      pub members_more : t.token ≡ token_of semicolon_sign → {t' : Cursor} → t' ≡ taken t → suc (left t') ≡ left d → length zs ≡ length ys → {s : ℕ} → Room src xs u s c₀ → Going xs u c₀ zs f (total + 1) t'
       unfolding stmt_nodes join count
       members_more i {t'} z fw q' p =
           let w = grew h q in
@@ -169,7 +168,7 @@ module _ (src : List ℕ) (o : ℕ) where
           }
 
       -- no `;`: that was the last
-      pub members_done : (kind_of t.token ≡ place_of semicolon_sign → ⊥) → left t ≡ left d → (w : ℕ) → u ≡ w + 4 → {ws : List ℕ} → Seals w (node_no body_kind) 0 (total + 1) f zs ws
+      pub members_done : (t.token ≡ token_of semicolon_sign → ⊥) → left t ≡ left d → (w : ℕ) → u ≡ w + 4 → {ws : List ℕ} → Seals w (node_no body_kind) 0 (total + 1) f zs ws
           → Tries P.body src xs w ws (λ n. stmts src n o) (8 * left c₀ + 4) 0 0 c₀ (Node f t)
       unfolding Safe Means stmt_nodes join count map_o
       members_done i same w eq {ws} z =
@@ -198,13 +197,13 @@ module _ (src : List ℕ) (o : ℕ) where
   unfolding stmts
   member_refused {c} {w} z = by_suc (λ n. (k : Place) → Stands src c k → stmts src n o k ≡ refuse w) (8 * left c + 4) (omega arith) (λ n l k s. ap (then _) (z n (omega arith) k s))
 
-  pub member_stop : {c d : Cursor} {ys zs : List ℕ} {e f : ℕ} {r : Answer} → Tries P.statement src ys e zs (λ n. stmt src n o) (8 * left c + 3) 8 0 c r → r ≡ Node f d → {v : Seen} → Sees src d v → {n w : ℕ} → v ≡ Stop n → w ≡ why_of v
-      → Refuses src (λ n. stmts src n o) (8 * left c + 4) c w
-  member_stop {c} h q y {n} {w} e z =
-      by_suc (λ n. (k : Place) → Stands src c k → stmts src n o k ≡ refuse w) (8 * left c + 4) (omega arith)
+  pub member_stop : {c d : Cursor} {ys zs : List ℕ} {e f : ℕ} {r : Answer} → Tries P.statement src ys e zs (λ n. stmt src n o) (8 * left c + 3) 8 0 c r → r ≡ Node f d → {v : Seen} → Sees src d v → {w : Refusal} → v ≡ Err w
+      → Refuses src (λ n. stmts src n o) (8 * left c + 4) c (number_of w)
+  member_stop {c} h q y {w} e =
+      by_suc (λ n. (k : Place) → Stands src c k → stmts src n o k ≡ refuse (number_of w)) (8 * left c + 4) (omega arith)
       (λ n l k s.
       let x = made h q n (omega arith) k s in
-      member_is n k (some x.value) x.at x.is ∙ next_refused src semicolon_sign _ _ x.at (no_look y e z x.at x.stands))
+      member_is n k (some x.value) x.at x.is ∙ next_refused src semicolon_sign _ _ x.at (no_look y e x.at x.stands))
 
   -- the member at c yields nothing: the list is read on from d
   pub member_quiet : {c d : Cursor} {ys zs ws : List ℕ} {e : ℕ} {r : Answer} → Tries P.statement src ys e zs (λ n. stmt src n o) (8 * left c + 3) 8 0 c r → r ≡ Nothing d
@@ -276,12 +275,12 @@ module _ (src : List ℕ) (o : ℕ) where
         record { place = a.at; stands = a.stands; short = p.short; small = omega (arith, g.same, p.small); room = omega (arith, g.same, g.fewer, p.room) }
 
     module _ {v : Seen} (y : Sees src c v) where
-      pub reading_stop : {n w : ℕ} → v ≡ Stop n → w ≡ why_of v → Refuses src (λ n. quiet_rest src n o) (8 * left c₀ + 1) c₀ w
+      pub reading_stop : {n : Refusal} → v ≡ Err n → Refuses src (λ n. quiet_rest src n o) (8 * left c₀ + 1) c₀ (number_of n)
       unfolding quiet_rest
-      reading_stop e z n l k s = let a = g.on n l k s in a.is ∙ next_refused src semicolon_sign _ _ a.at (no_look y e z a.at a.stands)
+      reading_stop e n l k s = let a = g.on n l k s in a.is ∙ next_refused src semicolon_sign _ _ a.at (no_look y e a.at a.stands)
 
-      module _ {d : Cursor} (at : v ≡ At d) where
-        pub reading_end : (kind_of d.token ≡ place_of semicolon_sign → ⊥) → left d ≡ left c → Quiets src xs u ys (λ n. quiet_rest src n o) (8 * left c₀ + 1) c₀ (Nothing d)
+      module _ {d : Cursor} (at : v ≡ Ok d) where
+        pub reading_end : (d.token ≡ token_of semicolon_sign → ⊥) → left d ≡ left c → Quiets src xs u ys (λ n. quiet_rest src n o) (8 * left c₀ + 1) c₀ (Nothing d)
         unfolding quiet_rest
         reading_end i m =
             nothing (omega (arith, g.fewer))
@@ -290,7 +289,7 @@ module _ (src : List ℕ) (o : ℕ) where
             let p = (saw y at a.at a.stands).1 in
             record { value = none; empty = refl; at = a.at; is = a.is ∙ next_is_not p semicolon_sign _ _ i; stands = p.stands; wrote = g.kept })
 
-        module _ (i : kind_of d.token ≡ place_of semicolon_sign) {t : Cursor} (e : t ≡ taken d) (fw : suc (left t) ≡ left c) where
+        module _ (i : d.token ≡ token_of semicolon_sign) {t : Cursor} (e : t ≡ taken d) (fw : suc (left t) ≡ left c) where
           -- at a `;`
           at_semicolon : (n : ℕ) → 8 * left c₀ + 1 ≤ n → (k : Place) → Stands src c₀ k → (P : Ans (Option Stmts) → Type 0)
               → ((m : ℕ) → 8 * left c ≤ m → (k₁ : Place) → Stands src t k₁ → P (then (λ r k. got none k) (stmts src (suc m) o k₁))) → P (quiet_rest src n o k)
@@ -302,46 +301,18 @@ module _ (src : List ℕ) (o : ℕ) where
               (λ m l' is. subst P (sym (is ∙ next_is p semicolon_sign _ _ i)) (f m (omega arith) (past src a.at) (rw e p.beyond)))
               a.fuel a.enough a.is
 
-          pub reading_more : {zs : List ℕ} {s' : ℕ} → Room src ys u s' t → (r : Answer) → Tries P.statement src ys u zs (λ n. stmt src n o) (8 * left t + 3) 8 0 t r → {p : Seen} → p ≡ passed_of r → {t' : Cursor} → p ≡ At t' → length zs ≡ length ys → Reading xs u c₀ zs t'
-          unfolding Safe Means join
-          reading_more {zs} rm (Node j f) h {p} q {t'} z len =
-              let q' : f ≡ t' = cc (q, z) in
-              subst (λ (x : Cursor). Reading xs u c₀ zs x) q'
-              (record {
-                fewer = omega (arith, g.fewer, (grew h refl).fewer);
-                same = len ∙ g.same;
-                kept = wrote_more g.kept (wrote_kept u (omega arith) (made h refl (8 * left t + 3) (omega arith) rm.place rm.stands).wrote);
-                on = λ n l k s. at_semicolon n l k s (At' f)
-                    (λ m l' k₁ s₁.
-                    let x = made h refl m (omega arith) k₁ s₁ in
-                    record { fuel = m; enough = omega (arith, (grew h refl).fewer); at = x.at; stands = x.stands; is = quiet_again m k₁ (some x.value) x.at x.is });
-              })
-          reading_more {zs} rm (Nothing f) h {p} q {t'} z len =
-              let q' : f ≡ t' = cc (q, z) in
-              subst (λ (x : Cursor). Reading xs u c₀ zs x) q'
-              (record {
-                fewer = omega (arith, g.fewer, h.safe);
-                same = len ∙ g.same;
-                kept = wrote_more g.kept (quiet h refl (8 * left t + 3) (omega arith) rm.place rm.stands).wrote;
-                on = λ n l k s. at_semicolon n l k s (At' f)
-                    (λ m l' k₁ s₁.
-                    let x = quiet h refl m (omega arith) k₁ s₁ in
-                    record { fuel = m; enough = omega (arith, h.safe); at = x.at; stands = x.stands; is = quiet_again m k₁ x.value x.at x.is });
-              })
-          reading_more {zs} rm (Refused m) h {p} q {t'} z len = absurd (let b : ◌≡◌ {A = ℕ} 0 1 = cc (q, z) in omega arith)
+          pub reading_more : {zs : List ℕ} {s' : ℕ} → Room src ys u s' t → (j : Perhaps ℕ) {t' : Cursor} → Tries P.statement src ys u zs (λ n. stmt src n o) (8 * left t + 3) 8 0 t (try_of (Ok (j, t'))) → length zs ≡ length ys → Reading xs u c₀ zs t'
+          unfolding join
+          reading_more rm j {t'} h len = record {
+            fewer = omega (arith, g.fewer, try_left j t' h);
+            same = len ∙ g.same;
+            kept = wrote_more g.kept (went j h (8 * left t + 3) (omega arith) rm.place rm.stands).wrote;
+            on = λ n l k s. at_semicolon n l k s (At' t')
+                (λ m l' k₁ s₁.
+                let x = went j h m (omega arith) k₁ s₁ in
+                record { fuel = m; enough = omega (arith, try_left j t' h); at = x.at; stands = x.stands; is = quiet_again m k₁ x.value x.at x.is });
+          }
 
-          pub reading_refused : {zs : List ℕ} (r : Answer) → Tries P.statement src ys u zs (λ n. stmt src n o) (8 * left t + 3) 8 0 t r → {p : Seen} → p ≡ passed_of r → {n w : ℕ} → p ≡ Stop n → w ≡ why_of p
-              → Refuses src (λ n. quiet_rest src n o) (8 * left c₀ + 1) c₀ w
-          unfolding Means stmts
-          reading_refused (Node j f) h {p} q {n} {w} z b = absurd (let b : ◌≡◌ {A = ℕ} 0 1 = cc (q, z) in omega arith)
-          reading_refused (Nothing f) h {p} q {n} {w} z b = absurd (let b : ◌≡◌ {A = ℕ} 0 1 = cc (q, z) in omega arith)
-          reading_refused (Refused m) h {p} q {n} {w} z b =
-              let b' : w ≡ m = b ∙ ap why_of q in
-              λ n l k s. at_semicolon n l k s (λ a. a ≡ refuse w) (λ x l' k₁ s₁. ap (then _) (ap (then _) (h.means x (omega arith) k₁ s₁)) ∙ ap (λ (y : ℕ). refuse y) (sym b'))
-
--- the cursor after a node or nothing has no more tokens left
-pub passed_left : {src ys zs : List ℕ} {u m : ℕ} {f : ℕ → Reader (Option Stmt)} {t : Cursor} (r : Answer) → Tries P.statement src ys u zs f m 8 0 t r → {p : Seen} → p ≡ passed_of r → {t' : Cursor} → p ≡ At t' → left t' ≤ left t
-unfolding Safe
-passed_left {t = t} (Node j f) h q {t'} z = let q' : f ≡ t' = cc (q, z) in subst (λ (x : Cursor). left x ≤ left t) q' h.safe.fewer
-passed_left {t = t} (Nothing f) h q {t'} z = let q' : f ≡ t' = cc (q, z) in subst (λ (x : Cursor). left x ≤ left t) q' h.safe
-passed_left (Refused m) h q z = absurd (let b : ◌≡◌ {A = ℕ} 0 1 = cc (q, z) in omega arith)
+          pub reading_refused : {w : ℕ} → Refuses src (λ n. stmt src n o) (8 * left t + 3) t w → Refuses src (λ n. quiet_rest src n o) (8 * left c₀ + 1) c₀ w
+          unfolding stmts
+          reading_refused {w} z n l k s = at_semicolon n l k s (λ a. a ≡ refuse w) (λ x l' k₁ s₁. ap (then _) (ap (then _) (z x (omega arith) k₁ s₁)))

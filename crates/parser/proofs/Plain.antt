@@ -1,24 +1,24 @@
 -- Statements that hold no statement.
+use Rattle.std.specs.Prelude.{Ok, Err}
 use mathlib.Core.Path.{◌≡◌, refl, sym, ap, subst, ◌∙◌}
 use mathlib.Core.List.{List, []}
 use mathlib.Core.Option.{Option, some}
 use Prim.Native.Nat.{ℕ, suc, ◌+◌, ◌*◌, ◌≤◌}
 use native.Mathlib.Omega.{arith}
 use Rattle.numbers.specs.Limits.{tree_share}
-use Rattle.lexer.specs.Marks.{Mark, open_sign, close_sign, becomes_sign, place_of}
+use Rattle.numbers.specs.declared.refusal.Refusal.{Refusal}
+use Rattle.numbers.specs.Refusals.{number_of}
+use Rattle.lexer.specs.Marks.{Mark, open_sign, close_sign, becomes_sign}
 use Rattle.lexer.specs.Tokens.{Name}
 use Rattle.lexer.specs.Cursor.{Cursor as Place, Ans, got, refuse, Reader}
-use Rattle.lexer.specs.Kinds.{kind_of}
+use Rattle.lexer.specs.Spelling.{token_of}
 use Rattle.lexer.specs.Stands.{Stands, taken, past, left}
 use Rattle.lexer.specs.declared.cursor.Cursor.{Cursor}
 use Rattle.tree.specs.Tree.{Stmt, assign, call, read_s, write_s}
 use Rattle.tree.specs.Layout.{Nodes, member, node_no, assign_kind, call_kind, count}
 use Rattle.tree.specs.Nodes.{name_node, exp_nodes, list_nodes, stmt_node}
 use Rattle.tree.specs.Writing.{join}
-use Rattle.parser.specs.declared.see.Seen.{Seen}
-use Rattle.parser.specs.declared.see.Seen.TheVariants.{At, Refused as Stop}
-use Rattle.parser.specs.declared.answer.Answer.{Answer}
-use Rattle.parser.specs.declared.answer.Answer.TheVariants.{Node, Nothing, Refused}
+use Rattle.parser.specs.Answer.{Answer, Node, Nothing, Refused}
 use Rattle.grammar.specs.Reader.{then, want, want_name, commas}
 use Rattle.grammar.specs.Grammar.{exp}
 use Rattle.parser.specs.Parts.{only, operand}
@@ -26,7 +26,7 @@ use Rattle.parser.specs.Pieces.{statement, assigned, called, reading, writing}
 use Rattle.parser.specs.Lists.{closed, Ended as Closing, Ends}
 use Rattle.parser.specs.Arguments.{Argues}
 use Rattle.parser.specs.Written.{Wrote, Seals}
-use Rattle.parser.specs.See.{Sees, Wants, why_of}
+use Rattle.parser.specs.See.{Seen, Sees, Wants}
 use Rattle.parser.specs.Meets.{Room, Safe, Means, Reads, Tries}
 use Rattle.parser.proofs.Seeing.{saw, no_look, took, no_mark, next_is, next_is_not}
 use Rattle.parser.proofs.Writing.{wrote_more}
@@ -36,11 +36,11 @@ use Rattle.parser.proofs.Loops.{Ended}
 use Rattle.tree.specs.Writing.{count_join}
 
 module _ (src : List ℕ) (o : ℕ) (x : Name) {c : Cursor} {v : Seen} (w : Wants src becomes_sign c v) where
-  pub assigned_stop : {n m : ℕ} → v ≡ Stop n → m ≡ why_of v → Refuses src (λ n. assigned src x n o) (8 * left c + 3) c m
+  pub assigned_stop : {n : Refusal} → v ≡ Err n → Refuses src (λ n. assigned src x n o) (8 * left c + 3) c (number_of n)
   unfolding assigned
-  assigned_stop e z n l k s = ap (then _) (no_mark w e z k s)
+  assigned_stop e n l k s = ap (then _) (no_mark w e k s)
 
-  module _ {t : Cursor} (at : v ≡ At t) where
+  module _ {t : Cursor} (at : v ≡ Ok t) where
     pub assigned_in : {m : ℕ} → Refuses src (λ n. exp src n o) (8 * left t + 3) t m → Refuses src (λ n. assigned src x n o) (8 * left c + 3) c m
     unfolding assigned
     assigned_in z n l k s = let y = took w at k s in ap (then _) y.wants ∙ ap (then _) (z n (omega (arith, y.fewer)) (past src k) y.stands)
@@ -89,15 +89,15 @@ closing src m g a = sym (then_then _ _ a ∙ then_same _ _ (λ l k. then_then _ 
 module _ (src : List ℕ) (o : ℕ) where
   -- `read` and `write`
   module _ {c : Cursor} {v : Seen} (w : Wants src open_sign c v) where
-    pub reading_stop : {n m : ℕ} → v ≡ Stop n → m ≡ why_of v → Refuses src (λ n. reading src n o) (8 * left c + 3) c m
+    pub reading_stop : {n : Refusal} → v ≡ Err n → Refuses src (λ n. reading src n o) (8 * left c + 3) c (number_of n)
     unfolding reading
-    reading_stop e z n l k s = ap (then _) (no_mark w e z k s)
+    reading_stop e n l k s = ap (then _) (no_mark w e k s)
 
-    pub writing_stop : {n m : ℕ} → v ≡ Stop n → m ≡ why_of v → Refuses src (λ n. writing src n o) (8 * left c + 3) c m
+    pub writing_stop : {n : Refusal} → v ≡ Err n → Refuses src (λ n. writing src n o) (8 * left c + 3) c (number_of n)
     unfolding writing
-    writing_stop e z n l k s = ap (then _) (no_mark w e z k s)
+    writing_stop e n l k s = ap (then _) (no_mark w e k s)
 
-    module _ {t : Cursor} (at : v ≡ At t) where
+    module _ {t : Cursor} (at : v ≡ Ok t) where
       pub reading_moved : (n : ℕ) → 8 * left c + 3 ≤ n → (k : Place) → Stands src c k → Moved src (λ n k. then (λ a k. got (some (read_s a)) k) (closed src close_sign (want_name src) n k)) (8 * left t + 1) t (reading src n o k)
       unfolding reading
       reading_moved n l k s =
@@ -116,21 +116,21 @@ module _ (src : List ℕ) (o : ℕ) where
   called_refused z n l k s = ap (then _) (z n (omega arith) k s)
 
   module _ (u : ℕ) {xs ys : List ℕ} {i : ℕ} {c d : Cursor} {r : Answer} (h : Reads (λ n. only (name_node n)) src xs (u + 4) ys (λ n. want_name src) 0 8 0 c r) (q : r ≡ Node i d) {v : Seen} (w : Wants src open_sign d v) where
-    pub called_stop : {n m : ℕ} → v ≡ Stop n → m ≡ why_of v → Refuses src (λ n. called src n o) (8 * left c + 3) c m
+    pub called_stop : {n : Refusal} → v ≡ Err n → Refuses src (λ n. called src n o) (8 * left c + 3) c (number_of n)
     unfolding called
-    called_stop e z n l k s = let b = made h q n (omega arith) k s in ap (then _) b.is ∙ ap (then _) (no_mark w e z b.at b.stands)
+    called_stop e n l k s = let b = made h q n (omega arith) k s in ap (then _) b.is ∙ ap (then _) (no_mark w e b.at b.stands)
 
-    module _ {t : Cursor} (at : v ≡ At t) {v' : Seen} (y : Sees src t v') where
-      pub called_look : {n m : ℕ} → v' ≡ Stop n → m ≡ why_of v' → Refuses src (λ n. called src n o) (8 * left c + 3) c m
+    module _ {t : Cursor} (at : v ≡ Ok t) {v' : Seen} (y : Sees src t v') where
+      pub called_look : {n : Refusal} → v' ≡ Err n → Refuses src (λ n. called src n o) (8 * left c + 3) c (number_of n)
       unfolding called
-      called_look e z n l k s =
+      called_look e n l k s =
           let b = made h q n (omega arith) k s in
           let x = took w at b.at b.stands in
-          ap (then _) b.is ∙ ap (then _) x.wants ∙ next_refused src close_sign _ _ (past src b.at) (no_look y e z (past src b.at) x.stands)
+          ap (then _) b.is ∙ ap (then _) x.wants ∙ next_refused src close_sign _ _ (past src b.at) (no_look y e (past src b.at) x.stands)
 
-      module _ {e : Cursor} (at' : v' ≡ At e) (fw : suc (left t) ≡ left d) where
+      module _ {e : Cursor} (at' : v' ≡ Ok e) (fw : suc (left t) ≡ left d) where
         -- no arguments
-        pub called_none : kind_of e.token ≡ place_of close_sign → {f : Cursor} → f ≡ taken e → suc (left f) ≡ left t → {zs : List ℕ} → Seals u (node_no call_kind) 0 1 i ys zs
+        pub called_none : e.token ≡ token_of close_sign → {f : Cursor} → f ≡ taken e → suc (left f) ≡ left t → {zs : List ℕ} → Seals u (node_no call_kind) 0 1 i ys zs
             → Tries statement src xs u zs (λ n. called src n o) (8 * left c + 3) 8 0 c (Node i f)
         unfolding called Safe Means stmt_node list_nodes count
         called_none is {f} tk fw' z =
@@ -151,7 +151,7 @@ module _ (src : List ℕ) (o : ℕ) where
             }
 
         -- arguments
-        pub called_some : (kind_of e.token ≡ place_of close_sign → ⊥) → left e ≡ left t → {v₀ s₀ : ℕ} {zs₀ : List ℕ} → Room src zs₀ v₀ s₀ c → {zs : List ℕ} (r' : Answer) → Argues src o u (node_no call_kind) 1 i ys zs e r'
+        pub called_some : (e.token ≡ token_of close_sign → ⊥) → left e ≡ left t → {v₀ s₀ : ℕ} {zs₀ : List ℕ} → Room src zs₀ v₀ s₀ c → {zs : List ℕ} (r' : Answer) → Argues src o u (node_no call_kind) 1 i ys zs e r'
             → Tries statement src xs u zs (λ n. called src n o) (8 * left c + 3) 8 0 c r'
         unfolding called Safe Means stmt_node join count
         called_some is-not same p₀ {zs} (Node j f) a =

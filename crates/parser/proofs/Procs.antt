@@ -1,4 +1,5 @@
 -- Procedures and blocks: their definitions by the readers' parts, and what each part's answer comes to.
+use Rattle.std.specs.Prelude.{Ok, Err, Option as Perhaps}
 use mathlib.Core.Path.{◌≡◌, refl, sym, ap, ◌∙◌}
 use mathlib.Core.Bool.{Bool}
 use mathlib.Core.List.{List, [], ◌∷◌, ◌++◌}
@@ -8,10 +9,12 @@ use native.Mathlib.Omega.{arith}
 use lib.ListN.{length, take as up_to}
 use Rattle.numbers.specs.Panel.{too_many_open}
 use Rattle.numbers.specs.Limits.{max_open}
-use Rattle.lexer.specs.Marks.{procedure_word, program_word, open_sign, semicolon_sign, place_of}
+use Rattle.numbers.specs.declared.refusal.Refusal.{Refusal}
+use Rattle.numbers.specs.Refusals.{number_of}
+use Rattle.lexer.specs.Marks.{procedure_word, program_word, open_sign, semicolon_sign}
 use Rattle.lexer.specs.Tokens.{Name}
 use Rattle.lexer.specs.Cursor.{Cursor as Place, Ans, got, refuse, Reader}
-use Rattle.lexer.specs.Kinds.{kind_of}
+use Rattle.lexer.specs.Spelling.{token_of}
 use Rattle.lexer.specs.Stands.{Stands, taken, past, left}
 use Rattle.lexer.specs.declared.cursor.Cursor.{Cursor}
 use Rattle.tree.specs.Tree.{Const, Stmts, Procs, no_procs, proc, Block}
@@ -19,23 +22,19 @@ use Rattle.tree.specs.Layout.{Nodes, node_no, no_procedures_kind, procedure_kind
 use Rattle.tree.specs.Nodes.{name_node, names_node, procs_node, body_node, block_node}
 use Rattle.tree.specs.Writing.{join}
 use Rattle.tree.specs.Reading.{sizes_least}
-use Rattle.parser.specs.declared.see.Seen.{Seen}
-use Rattle.parser.specs.declared.see.Seen.TheVariants.{At, Refused as Stop}
-use Rattle.parser.specs.declared.answer.Answer.{Answer}
-use Rattle.parser.specs.declared.answer.Answer.TheVariants.{Node, Nothing, Refused}
+use Rattle.parser.specs.Answer.{Answer, Node, Nothing, Refused, try_of}
 use Rattle.grammar.specs.Reader.{then, pure, enter, is_mark, want, want_name}
 use Rattle.grammar.specs.Grammar.{both, map_o, or_absent, const_part, var_part, arg_part, body_of, proc_of, inner_of, later_of, program}
 use Rattle.parser.specs.Parts.{only}
-use Rattle.parser.specs.Blocks.{Decls, Head, Front, decls, decls_nodes, head, head_nodes, front, front_nodes, block, quiet_later, Silent}
-use Rattle.parser.specs.Quiet.{quieted_of}
-use Rattle.parser.specs.See.{Sees, Wants, why_of}
+use Rattle.parser.specs.Blocks.{Decls, Head, Front, decls, decls_nodes, head, head_nodes, front, front_nodes, block}
+use Rattle.parser.specs.See.{Seen, Sees, Wants}
 use Rattle.parser.specs.Written.{Wrote, Seals}
 use Rattle.parser.specs.Meets.{Safe, Made, Quiet, Means, Meets, Reads, Tries}
 use Rattle.parser.proofs.Seeing.{choose, saw, no_look, took, no_mark, it_is, it_is_not, next_is, next_is_not, enters, enters_not}
 use Rattle.parser.proofs.Writing.{wrote_more, wrote_kept}
-use Rattle.parser.proofs.Answers.{Refuses, by_suc, refused, grew, made, Moved}
+use Rattle.parser.proofs.Answers.{Refuses, by_suc, grew, made, Moved}
 use Rattle.parser.proofs.Choices.{then_then, then_same, next_refused}
-use Rattle.parser.proofs.Tries.{NoQuiet, quiet, quiet_left, Quietly, nothing}
+use Rattle.parser.proofs.Tries.{quiet, quiet_left, try_left, went, Quietly, nothing}
 use Rattle.parser.proofs.Sequences.{Sequence, Joins}
 use Rattle.parser.proofs.Declared.{wrote_empty}
 
@@ -46,24 +45,24 @@ under g f h e a = then_then g f a ∙ then_same (λ x k. then g (f x k)) h e a
 module _ (src : List ℕ) where
   -- the head of a procedure
   module _ {c : Cursor} {v : Seen} (wants : Wants src procedure_word c v) where
-    pub head_stop : {n w m : ℕ} → v ≡ Stop n → w ≡ why_of v → Refuses src (λ n. head src n) m c w
+    pub head_stop : {m : ℕ} {n : Refusal} → v ≡ Err n → Refuses src (λ n. head src n) m c (number_of n)
     unfolding head
-    head_stop e q n l k s = ap (then _) (no_mark wants e q k s)
+    head_stop e n l k s = ap (then _) (no_mark wants e k s)
 
-    module _ {t : Cursor} (at : v ≡ At t) where
+    module _ {t : Cursor} (at : v ≡ Ok t) where
       pub head_name : {w m : ℕ} → Refuses src (λ n. want_name src) 0 t w → Refuses src (λ n. head src n) m c w
       unfolding head
       head_name z n l k s = let p = took wants at k s in ap (then _) p.wants ∙ ap (then _) (z 0 (omega arith) (past src k) p.stands)
 
       module _ {xs ys : List ℕ} {u e : ℕ} {d : Cursor} {r : Answer} (nm : Reads (λ n. only (name_node n)) src xs u ys (λ n. want_name src) 0 8 0 t r) (q : r ≡ Node e d) {v' : Seen} (opens : Wants src open_sign d v') where
-        pub head_open : {n w m : ℕ} → v' ≡ Stop n → w ≡ why_of v' → Refuses src (λ n. head src n) m c w
+        pub head_open : {m : ℕ} {n : Refusal} → v' ≡ Err n → Refuses src (λ n. head src n) m c (number_of n)
         unfolding head
-        head_open i z n l k s =
+        head_open i n l k s =
             let p = took wants at k s in
             let b = made nm q 0 (omega arith) (past src k) p.stands in
-            ap (then _) p.wants ∙ ap (then _) b.is ∙ ap (then _) (no_mark opens i z b.at b.stands)
+            ap (then _) p.wants ∙ ap (then _) b.is ∙ ap (then _) (no_mark opens i b.at b.stands)
 
-        module _ {t' : Cursor} (at' : v' ≡ At t') (some : left t' < left c) where
+        module _ {t' : Cursor} (at' : v' ≡ Ok t') (some : left t' < left c) where
           pub head_args : {w : ℕ} → Refuses src (λ n. arg_part src n) (8 * left t' + 1) t' w → Refuses src (λ n. head src n) (8 * left c) c w
           unfolding head
           head_args z n l k s =
@@ -73,16 +72,16 @@ module _ (src : List ℕ) where
               ap (then _) p.wants ∙ ap (then _) b.is ∙ ap (then _) o.wants ∙ ap (then _) (z n (omega arith) (past src b.at) o.stands)
 
           module _ {zs : List ℕ} {f : ℕ} {d' : Cursor} {r' : Answer} (ar : Reads (λ ns. only (names_node ns)) src ys e zs (λ n. arg_part src n) (8 * left t' + 1) 8 0 t' r') (q' : r' ≡ Node f d') {v'' : Seen} (ends : Wants src semicolon_sign d' v'') where
-            pub head_end : {n w : ℕ} → v'' ≡ Stop n → w ≡ why_of v'' → Refuses src (λ n. head src n) (8 * left c) c w
+            pub head_end : {n : Refusal} → v'' ≡ Err n → Refuses src (λ n. head src n) (8 * left c) c (number_of n)
             unfolding head
-            head_end i z n l k s =
+            head_end i n l k s =
                 let p = took wants at k s in
                 let b = made nm q 0 (omega arith) (past src k) p.stands in
                 let o = took opens at' b.at b.stands in
                 let a = made ar q' n (omega arith) (past src b.at) o.stands in
-                ap (then _) p.wants ∙ ap (then _) b.is ∙ ap (then _) o.wants ∙ ap (then _) a.is ∙ ap (then _) (no_mark ends i z a.at a.stands)
+                ap (then _) p.wants ∙ ap (then _) b.is ∙ ap (then _) o.wants ∙ ap (then _) a.is ∙ ap (then _) (no_mark ends i a.at a.stands)
 
-            pub head_done : {g : Cursor} → v'' ≡ At g → suc (left t) ≡ left c → suc (left t') ≡ left d → suc (left g) ≡ left d' → Reads head_nodes src xs u zs (λ n. head src n) (8 * left c) 40 0 c (Node f g)
+            pub head_done : {g : Cursor} → v'' ≡ Ok g → suc (left t) ≡ left c → suc (left t') ≡ left d → suc (left g) ≡ left d' → Reads head_nodes src xs u zs (λ n. head src n) (8 * left c) 40 0 c (Node f g)
             unfolding head head_nodes join Safe Means
             head_done {g} at'' f1 f2 f3 =
                 let x = grew nm q in
@@ -239,41 +238,34 @@ module _ (src : List ℕ) where
               (λ x l k s. let b = fronted x (omega arith) k s in b.is ∙ ap (then _) (z x (omega (arith, fewer2)) b.at b.stands))
 
           module _ {ts : List ℕ} {d3 : Cursor} {r3 : Answer} (h3 : Tries (λ b. only (body_node b)) src zs f ts (λ n. body_of src n o') (8 * left d2 + 1) 8 0 d2 r3) where
-            -- the body yields nothing
-            pub proc_quiet : r3 ≡ Nothing d3 → {ws : List ℕ} (r4 : Answer) → Silent src ts f ws (λ n. quiet_later src n o') (8 * left d3 + 1) d3 r4
-                → Tries (λ p. only (procs_node p)) src xs u ws (λ n. proc_of src n o) (8 * left c + 1) 0 0 c r4
-            unfolding Safe Means both quiet_later
-            proc_quiet z {ws} (Node i t) h4 =
-                record {
-                  safe = record { above = omega (arith, h4.safe.above, (grew h q).above, (grew h2 q2).above); fewer = omega (arith, h4.safe.fewer, quiet_left h3 z, fewer2); room = omega (arith, (grew h q).room, (grew h2 q2).room, h4.safe.room, quiet_left h3 z) };
-                  means = by_suc (λ x. (k : Place) → Stands src c k → Made some (λ v. v ≡ none) (λ p. only (procs_node p)) src xs u ws i t (proc_of src x o k)) (8 * left c + 1) (omega arith)
-                      (λ x l k s.
-                      let a = fronted x (omega arith) k s in
-                      let b = quiet h3 z x (omega (arith, fewer2)) a.at a.stands in
-                      absurd (h4.means x (omega (arith, fewer2, quiet_left h3 z)) b.at b.stands).value);
-                }
-            proc_quiet z {ws} (Nothing t) h4 =
-                nothing (omega (arith, h4.safe, quiet_left h3 z, fewer2))
-                (by_suc (λ x. (k : Place) → Stands src c k → Quiet some (λ v. v ≡ none) (λ p. only (procs_node p)) src xs u ws t (proc_of src x o k)) (8 * left c + 1) (omega arith)
-                (λ x l k s.
-                let a = fronted x (omega arith) k s in
-                let b = quiet h3 z x (omega (arith, fewer2)) a.at a.stands in
-                let y = quiet h4 refl x (omega (arith, fewer2, quiet_left h3 z)) b.at b.stands in
-                record {
-                  value = none;
-                  empty = refl;
-                  at = y.at;
-                  is = a.is ∙ ap (then _) (b.is ∙ ap (λ v. got v b.at) b.empty) ∙ y.is ∙ ap (λ v. got v y.at) y.empty;
-                  stands = y.stands;
-                  wrote = wrote_kept u (omega arith) (wrote_more (wrote_more a.wrote b.wrote) y.wrote);
-                }))
-            proc_quiet z (Refused w) h4 =
-                refused
-                (by_suc (λ x. (k : Place) → Stands src c k → proc_of src x o k ≡ refuse w) (8 * left c + 1) (omega arith)
-                (λ x l k s.
-                let a = fronted x (omega arith) k s in
-                let b = quiet h3 z x (omega (arith, fewer2)) a.at a.stands in
-                a.is ∙ ap (then _) (b.is ∙ ap (λ v. got v b.at) b.empty) ∙ h4.means x (omega (arith, fewer2, quiet_left h3 z)) b.at b.stands))
+            -- the body yields nothing: so does the whole, and the later ones are read
+            module _ (z : r3 ≡ Nothing d3) where
+              pub proc_quiet_later : {w : ℕ} → Refuses src (λ n. later_of src n o') (8 * left d3 + 1) d3 w → Refuses src (λ n. proc_of src n o) (8 * left c + 1) c w
+              proc_quiet_later {w} y =
+                  by_suc (λ x. (k : Place) → Stands src c k → proc_of src x o k ≡ refuse w) (8 * left c + 1) (omega arith)
+                  (λ x l k s.
+                  let a = fronted x (omega arith) k s in
+                  let b = quiet h3 z x (omega (arith, fewer2)) a.at a.stands in
+                  a.is ∙ ap (then _) b.is ∙ ap (then _) (y x (omega (arith, fewer2, quiet_left h3 z)) b.at b.stands))
+
+              pub proc_quiet : {ws : List ℕ} (j : Perhaps ℕ) {t : Cursor} → Tries (λ p. only (procs_node p)) src ts f ws (λ n. later_of src n o') (8 * left d3 + 1) 0 4 d3 (try_of (Ok (j, t)))
+                  → Tries (λ p. only (procs_node p)) src xs u ws (λ n. proc_of src n o) (8 * left c + 1) 0 0 c (Nothing t)
+              unfolding both
+              proc_quiet {ws} j {t} h4 =
+                  nothing (omega (arith, try_left j t h4, quiet_left h3 z, fewer2))
+                  (by_suc (λ x. (k : Place) → Stands src c k → Quiet some (λ v. v ≡ none) (λ p. only (procs_node p)) src xs u ws t (proc_of src x o k)) (8 * left c + 1) (omega arith)
+                  (λ x l k s.
+                  let a = fronted x (omega arith) k s in
+                  let b = quiet h3 z x (omega (arith, fewer2)) a.at a.stands in
+                  let y = went j h4 x (omega (arith, fewer2, quiet_left h3 z)) b.at b.stands in
+                  record {
+                    value = none;
+                    empty = refl;
+                    at = y.at;
+                    is = a.is ∙ ap (then _) (b.is ∙ ap (λ v. got v b.at) b.empty) ∙ ap (then _) y.is;
+                    stands = y.stands;
+                    wrote = wrote_kept u (omega arith) (wrote_more (wrote_more a.wrote b.wrote) y.wrote);
+                  }))
 
             module _ {i : ℕ} (q3 : r3 ≡ Node i d3) where
               fewer3 : left d3 + 1 ≤ left c
@@ -338,13 +330,13 @@ module _ (src : List ℕ) where
   -- {`;` procedure}
   module _ (o : ℕ) where
     module _ {c : Cursor} {v : Seen} (h : Sees src c v) where
-      pub later_stop : {n w : ℕ} → v ≡ Stop n → w ≡ why_of v → Refuses src (λ n. later_of src n o) (8 * left c + 1) c w
+      pub later_stop : {n : Refusal} → v ≡ Err n → Refuses src (λ n. later_of src n o) (8 * left c + 1) c (number_of n)
       unfolding later_of
-      later_stop {n} {w} e q =
-          by_suc (λ x. (k : Place) → Stands src c k → later_of src x o k ≡ refuse w) (8 * left c + 1) (omega arith) (λ x l k s. next_refused src semicolon_sign _ _ k (no_look h e q k s))
+      later_stop {n} e =
+          by_suc (λ x. (k : Place) → Stands src c k → later_of src x o k ≡ refuse (number_of n)) (8 * left c + 1) (omega arith) (λ x l k s. next_refused src semicolon_sign _ _ k (no_look h e k s))
 
-      module _ {d : Cursor} (at : v ≡ At d) where
-        pub later_there : {t : Cursor} → t ≡ taken d → kind_of d.token ≡ place_of semicolon_sign → (n : ℕ) → 8 * left c + 1 ≤ n → (k : Place) → Stands src c k → Moved src (λ n. proc_of src n o) (8 * left t + 1) t (later_of src n o k)
+      module _ {d : Cursor} (at : v ≡ Ok d) where
+        pub later_there : {t : Cursor} → t ≡ taken d → d.token ≡ token_of semicolon_sign → (n : ℕ) → 8 * left c + 1 ≤ n → (k : Place) → Stands src c k → Moved src (λ n. proc_of src n o) (8 * left t + 1) t (later_of src n o k)
         unfolding later_of
         later_there {t} e i =
             by_suc (λ x. (k : Place) → Stands src c k → Moved src (λ n. proc_of src n o) (8 * left t + 1) t (later_of src x o k)) (8 * left c + 1) (omega arith)
@@ -353,7 +345,7 @@ module _ (src : List ℕ) where
             let f : suc (left t) ≡ left c = rw e p.fewer in
             record { fuel = x; enough = omega arith; at = past src k; stands = rw e p.beyond; is = next_is p semicolon_sign _ _ i })
 
-        pub later_none : {xs ys : List ℕ} {u e : ℕ} → (kind_of d.token ≡ place_of semicolon_sign → ⊥) → left d ≡ left c → u ≤ length xs → e ≡ u + 4 → up_to (u + 4) ys ≡ up_to u xs ++ (node_no no_procedures_kind ∷ 0 ∷ 0 ∷ 0 ∷ [])
+        pub later_none : {xs ys : List ℕ} {u e : ℕ} → (d.token ≡ token_of semicolon_sign → ⊥) → left d ≡ left c → u ≤ length xs → e ≡ u + 4 → up_to (u + 4) ys ≡ up_to u xs ++ (node_no no_procedures_kind ∷ 0 ∷ 0 ∷ 0 ∷ [])
             → Tries (λ p. only (procs_node p)) src xs u ys (λ n. later_of src n o) (8 * left c + 1) 0 4 c (Node e d)
         unfolding later_of Safe Means procs_node
         later_none {xs} {ys} {u} {e} i f fits q l = record {
@@ -364,25 +356,13 @@ module _ (src : List ℕ) where
               record { value = no_procs; at = k; is = next_is_not p semicolon_sign _ _ i; stands = p.stands; wrote = wrote_empty no_procedures_kind fits q l });
         }
 
-    -- after a body that yields nothing
-    pub later_silent : {xs ys : List ℕ} {u : ℕ} {c : Cursor} (r : Answer) → Tries (λ p. only (procs_node p)) src xs u ys (λ n. later_of src n o) (8 * left c + 1) 0 4 c r
-        → Silent src xs u ys (λ n. quiet_later src n o) (8 * left c + 1) c (quieted_of r)
-    unfolding quiet_later Safe Means
-    later_silent (Node e d) h =
-        nothing h.safe.fewer
-        (λ n l k s. let b = h.means n l k s in record { value = none; empty = refl; at = b.at; is = ap (then _) b.is; stands = b.stands; wrote = wrote_kept _ (omega arith) b.wrote })
-    later_silent (Nothing d) h =
-        nothing h.safe
-        (λ n l k s. let b = h.means n l k s in record { value = none; empty = refl; at = b.at; is = ap (then _) b.is; stands = b.stands; wrote = b.wrote })
-    later_silent (Refused w) h = refused (λ n l k s. ap (then _) (h.means n l k s))
-
     -- a block's [procedure]
     module _ {c : Cursor} {v : Seen} (h : Sees src c v) where
-      pub inner_stop : {n w : ℕ} → v ≡ Stop n → w ≡ why_of v → Refuses src (λ n. inner_of src n o) (8 * left c + 2) c w
+      pub inner_stop : {n : Refusal} → v ≡ Err n → Refuses src (λ n. inner_of src n o) (8 * left c + 2) c (number_of n)
       unfolding inner_of
-      inner_stop {n} {w} e q = by_suc (λ x. (k : Place) → Stands src c k → inner_of src x o k ≡ refuse w) (8 * left c + 2) (omega arith) (λ x l k s. ap (then _) (no_look h e q k s))
+      inner_stop {n} e = by_suc (λ x. (k : Place) → Stands src c k → inner_of src x o k ≡ refuse (number_of n)) (8 * left c + 2) (omega arith) (λ x l k s. ap (then _) (no_look h e k s))
 
-      module _ {d : Cursor} (at : v ≡ At d) where
+      module _ {d : Cursor} (at : v ≡ Ok d) where
         absent : ℕ → Reader Procs
         absent n k = then (λ p k. got (or_absent p) k) (proc_of src n o k)
 
@@ -390,11 +370,11 @@ module _ (src : List ℕ) where
         unfolding inner_of choose absent
         inner_is n k s = ap (then (λ t. choose (is_mark procedure_word t) (absent n) (pure no_procs))) (saw h at k s).1.looks
 
-        inner_there : kind_of d.token ≡ place_of procedure_word → (n : ℕ) (k : Place) → Stands src c k → inner_of src (suc n) o k ≡ then (λ p k. got (or_absent p) k) (proc_of src n o k)
+        inner_there : d.token ≡ token_of procedure_word → (n : ℕ) (k : Place) → Stands src c k → inner_of src (suc n) o k ≡ then (λ p k. got (or_absent p) k) (proc_of src n o k)
         unfolding choose absent
         inner_there i n k s = inner_is n k s ∙ ap (λ (b : Bool). choose b (absent n) (pure no_procs) k) (it_is (saw h at k s).1 procedure_word i)
 
-        pub inner_none : {xs ys : List ℕ} {u e : ℕ} → (kind_of d.token ≡ place_of procedure_word → ⊥) → left d ≡ left c → u ≤ length xs → e ≡ u + 4 → up_to (u + 4) ys ≡ up_to u xs ++ (node_no no_procedures_kind ∷ 0 ∷ 0 ∷ 0 ∷ [])
+        pub inner_none : {xs ys : List ℕ} {u e : ℕ} → (d.token ≡ token_of procedure_word → ⊥) → left d ≡ left c → u ≤ length xs → e ≡ u + 4 → up_to (u + 4) ys ≡ up_to u xs ++ (node_no no_procedures_kind ∷ 0 ∷ 0 ∷ 0 ∷ [])
             → Reads (λ p. only (procs_node p)) src xs u ys (λ n. inner_of src n o) (8 * left c + 2) 0 4 c (Node e d)
         unfolding choose Safe Means procs_node
         inner_none {xs} {ys} {u} {e} i f fits q l = record {
@@ -405,22 +385,26 @@ module _ (src : List ℕ) where
               record { value = no_procs; at = k; is = inner_is x k s ∙ ap (λ (b : Bool). choose b (absent x) (pure no_procs) k) (it_is_not p procedure_word i); stands = p.stands; wrote = wrote_empty no_procedures_kind fits q l });
         }
 
-        module _ (i : kind_of d.token ≡ place_of procedure_word) (f : left d ≡ left c) {xs ys : List ℕ} {u : ℕ} where
-          -- a procedure, or a refusal
-          pub inner_up : (r : Answer) → Tries (λ p. only (procs_node p)) src xs u ys (λ n. proc_of src n o) (8 * left d + 1) 0 0 d r → NoQuiet r → Reads (λ p. only (procs_node p)) src xs u ys (λ n. inner_of src n o) (8 * left c + 2) 0 4 c r
+        -- a refusal
+        pub inner_in : d.token ≡ token_of procedure_word → {w : ℕ} → Refuses src (λ n. proc_of src n o) (8 * left d + 1) d w → left d ≡ left c → Refuses src (λ n. inner_of src n o) (8 * left c + 2) c w
+        inner_in i {w} z f =
+            by_suc (λ x. (k : Place) → Stands src c k → inner_of src x o k ≡ refuse w) (8 * left c + 2) (omega arith)
+            (λ x l k s. inner_there i x k s ∙ ap (then _) (z x (omega arith) k (saw h at k s).1.stands))
+
+        module _ (i : d.token ≡ token_of procedure_word) (f : left d ≡ left c) {xs ys : List ℕ} {u : ℕ} where
+          -- a procedure
+          pub inner_up : {r : Answer} {e : ℕ} {t : Cursor} → Tries (λ p. only (procs_node p)) src xs u ys (λ n. proc_of src n o) (8 * left d + 1) 0 0 d r → r ≡ Node e t
+              → Reads (λ p. only (procs_node p)) src xs u ys (λ n. inner_of src n o) (8 * left c + 2) 0 4 c (Node e t)
           unfolding Safe Means or_absent
-          inner_up (Node e t) z y = record {
-            safe = record { above = z.safe.above; fewer = omega (arith, z.safe.fewer); room = omega (arith, z.safe.room) };
-            means = by_suc (λ x. (k : Place) → Stands src c k → Made (λ a. a) (λ v. ⊥) (λ p. only (procs_node p)) src xs u ys e t (inner_of src x o k)) (8 * left c + 2) (omega arith)
-                (λ x l k s.
-                let b = z.means x (omega arith) k (saw h at k s).1.stands in
-                record { value = b.value; at = b.at; is = inner_there i x k s ∙ ap (then _) b.is; stands = b.stands; wrote = b.wrote });
-          }
-          inner_up (Nothing t) z y = absurd (y t refl)
-          inner_up (Refused w) z y =
-              refused
-              (by_suc (λ x. (k : Place) → Stands src c k → inner_of src x o k ≡ refuse w) (8 * left c + 2) (omega arith)
-              (λ x l k s. inner_there i x k s ∙ ap (then _) (z.means x (omega arith) k (saw h at k s).1.stands)))
+          inner_up {r} {e} {t} z q =
+              let g = grew z q in
+              record {
+                safe = record { above = g.above; fewer = omega (arith, g.fewer); room = omega (arith, g.room) };
+                means = by_suc (λ x. (k : Place) → Stands src c k → Made (λ a. a) (λ v. ⊥) (λ p. only (procs_node p)) src xs u ys e t (inner_of src x o k)) (8 * left c + 2) (omega arith)
+                    (λ x l k s.
+                    let b = made z q x (omega arith) k (saw h at k s).1.stands in
+                    record { value = b.value; at = b.at; is = inner_there i x k s ∙ ap (then _) b.is; stands = b.stands; wrote = b.wrote });
+              }
 
           -- one that yields nothing is absent
           pub inner_absent : {zs : List ℕ} {e : ℕ} {r : Answer} {t : Cursor} → Tries (λ p. only (procs_node p)) src xs u ys (λ n. proc_of src n o) (8 * left d + 1) 0 0 d r → r ≡ Nothing t
@@ -518,22 +502,22 @@ module _ (src : List ℕ) where
       named x k = then (λ _. whole) (want src semicolon_sign k)
 
   module _ {c : Cursor} {v : Seen} (wants : Wants src program_word c v) where
-    pub program_stop : {n w m : ℕ} → v ≡ Stop n → w ≡ why_of v → Refuses src (λ n. program src n) m c w
-    program_stop e q n l k s = programmed n k ∙ ap (then _) (no_mark wants e q k s)
+    pub program_stop : {m : ℕ} {n : Refusal} → v ≡ Err n → Refuses src (λ n. program src n) m c (number_of n)
+    program_stop e n l k s = programmed n k ∙ ap (then _) (no_mark wants e k s)
 
-    module _ {t : Cursor} (at : v ≡ At t) where
+    module _ {t : Cursor} (at : v ≡ Ok t) where
       pub program_name : {w m : ℕ} → Refuses src (λ n. want_name src) 0 t w → Refuses src (λ n. program src n) m c w
       program_name z n l k s = let p = took wants at k s in programmed n k ∙ ap (then _) p.wants ∙ ap (then _) (z 0 (omega arith) (past src k) p.stands)
 
       module _ {xs ys : List ℕ} {e : ℕ} {d : Cursor} {r : Answer} (nm : Reads (λ n. only (name_node n)) src xs 0 ys (λ n. want_name src) 0 8 0 t r) (q : r ≡ Node e d) {v' : Seen} (ends : Wants src semicolon_sign d v') where
-        pub program_end : {n w m : ℕ} → v' ≡ Stop n → w ≡ why_of v' → Refuses src (λ n. program src n) m c w
-        program_end i z n l k s =
+        pub program_end : {m : ℕ} {n : Refusal} → v' ≡ Err n → Refuses src (λ n. program src n) m c (number_of n)
+        program_end i n l k s =
             let p = took wants at k s in
             let b = made nm q 0 (omega arith) (past src k) p.stands in
-            programmed n k ∙ ap (then _) p.wants ∙ ap (then _) b.is ∙ ap (then _) (no_mark ends i z b.at b.stands)
+            programmed n k ∙ ap (then _) p.wants ∙ ap (then _) b.is ∙ ap (then _) (no_mark ends i b.at b.stands)
 
         -- and then its block
-        pub program_block : {t' : Cursor} → v' ≡ At t' → (n : ℕ) → 8 * left t' + 2 ≤ n → (k : Place) → Stands src c k → Moved src (λ n. block src n) (8 * left t' + 2) t' (program src n k)
+        pub program_block : {t' : Cursor} → v' ≡ Ok t' → (n : ℕ) → 8 * left t' + 2 ≤ n → (k : Place) → Stands src c k → Moved src (λ n. block src n) (8 * left t' + 2) t' (program src n k)
         program_block at' n l k s =
             let p = took wants at k s in
             let b = made nm q 0 (omega arith) (past src k) p.stands in

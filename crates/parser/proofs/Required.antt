@@ -1,9 +1,12 @@
 -- A name or a literal that has to be there.
+use Rattle.std.specs.Prelude.{Ok, Err}
 use mathlib.Core.Path.{◌≡◌, refl, ap, ◌∙◌}
 use mathlib.Core.List.{List, ◌++◌}
 use Prim.Native.Nat.{ℕ, suc, ◌+◌, ◌≤◌}
 use lib.ListN.{length, take as front}
 use Rattle.numbers.specs.Panel.{token_missing}
+use Rattle.numbers.specs.declared.refusal.Refusal.{Refusal}
+use Rattle.numbers.specs.Refusals.{number_of}
 use Rattle.lexer.specs.Tokens.{Token as Word, mark, name, number}
 use Rattle.lexer.specs.Cursor.{Cursor as Place, refuse, take}
 use Rattle.lexer.specs.Meaning.{name_at}
@@ -12,12 +15,10 @@ use Rattle.lexer.specs.declared.token.Token.TheVariants.{Identifier, Integer}
 use Rattle.lexer.specs.declared.cursor.Cursor.{Cursor}
 use Rattle.tree.specs.Layout.{word, literal, enc}
 use Rattle.tree.specs.Nodes.{name_node}
-use Rattle.parser.specs.declared.see.Seen.{Seen}
-use Rattle.parser.specs.declared.see.Seen.TheVariants.{At, Refused as Stop}
-use Rattle.parser.specs.declared.answer.Answer.TheVariants.{Node}
+use Rattle.parser.specs.Answer.{Node}
 use Rattle.grammar.specs.Reader.{then, name_in, number_in, taking, want_name, want_number}
 use Rattle.parser.specs.Parts.{only}
-use Rattle.parser.specs.See.{Sees, why_of}
+use Rattle.parser.specs.See.{Seen, Sees}
 use Rattle.parser.specs.Meets.{Safe, Means, Reads}
 use Rattle.parser.proofs.Tokens.{kind_in, known, no_identifier, no_integer}
 use Rattle.parser.proofs.Seeing.{saw, no_look}
@@ -39,27 +40,27 @@ module _ (src : List ℕ) (k : Place) where
 
 module _ {src : List ℕ} {c : Cursor} {v : Seen} (h : Sees src c v) where
   -- the look at it is refused
-  pub name_stop : {m n w : ℕ} → v ≡ Stop n → w ≡ why_of v → Refuses src (λ n. want_name src) m c w
+  pub name_stop : {m : ℕ} {n : Refusal} → v ≡ Err n → Refuses src (λ n. want_name src) m c (number_of n)
   unfolding want_name
-  name_stop e q n l k s = ap (then _) (no_look h e q k s)
+  name_stop e n l k s = ap (then _) (no_look h e k s)
 
-  pub number_stop : {m n w : ℕ} → v ≡ Stop n → w ≡ why_of v → Refuses src (λ n. want_number src) m c w
+  pub number_stop : {m : ℕ} {n : Refusal} → v ≡ Err n → Refuses src (λ n. want_number src) m c (number_of n)
   unfolding want_number
-  number_stop e q n l k s = ap (then _) (no_look h e q k s)
+  number_stop e n l k s = ap (then _) (no_look h e k s)
 
-  module _ {d : Cursor} (at : v ≡ At d) where
+  module _ {d : Cursor} (at : v ≡ Ok d) where
     -- it is another token
     pub name_other : {m : ℕ} → ((a n : ℕ) → d.token ≡ Identifier a n → ⊥) → Refuses src (λ n. want_name src) m c token_missing
     unfolding want_name
     name_other o n l k s =
         let p = saw h at k s in
-        ap (then _) p.1.looks ∙ no_name src k p.0 (λ e. no_identifier d.token o ((known src d.token p.0 p.1.means).1 ∙ e))
+        ap (then _) p.1.looks ∙ no_name src k p.0 (λ e. no_identifier d.token o ((known src d.token p.0 p.1.means) ∙ e))
 
     pub number_other : {m : ℕ} → ((v : ℕ) → d.token ≡ Integer v → ⊥) → Refuses src (λ n. want_number src) m c token_missing
     unfolding want_number
     number_other o n l k s =
         let p = saw h at k s in
-        ap (then _) p.1.looks ∙ no_number src k p.0 (λ e. no_integer d.token o ((known src d.token p.0 p.1.means).1 ∙ e))
+        ap (then _) p.1.looks ∙ no_number src k p.0 (λ e. no_integer d.token o ((known src d.token p.0 p.1.means) ∙ e))
 
     -- it is there, and its leaf was written
     module _ {t : Cursor} (took : t ≡ taken d) (fewer : suc (left t) ≡ left c) {xs ys : List ℕ} {u e : ℕ} (fits : u ≤ length xs) (ends : e ≡ u + 4) where

@@ -8,8 +8,7 @@ use Rattle.lexer.specs.Stands.{Stands, left}
 use Rattle.lexer.specs.declared.cursor.Cursor.{Cursor}
 use Rattle.tree.specs.Layout.{Nodes}
 use Rattle.tree.specs.Writing.{join}
-use Rattle.parser.specs.declared.answer.Answer.{Answer}
-use Rattle.parser.specs.declared.answer.Answer.TheVariants.{Node, Nothing, Refused}
+use Rattle.parser.specs.Answer.{Answer, Node, Nothing, Refused}
 use Rattle.grammar.specs.Reader.{then}
 use Rattle.parser.specs.Meets.{Safe, Means, Meets, Reads}
 use Rattle.parser.proofs.Writing.{wrote_more}

@@ -8,71 +8,66 @@ use native.Mathlib.Omega.{arith}
 use lib.Dec.{eqb, ltb}
 use lib.ListN.{get_or}
 use borrow.Author.Tests.{ne_eqb, ltb-true}
-use denote.Enum.Declared.{tag_of}
-use Rattle.lexer.specs.contracts.token.Token as Tok
 use Rattle.lexer.specs.Marks.{Mark, if_word, then_word, else_word, while_word, do_word, const_word, var_word, procedure_word, program_word, begin_word, end_word, call_word, read_word, write_word, odd_word, plus_sign, minus_sign, times_sign, divide_sign, equal_sign, less_sign, greater_sign, at_most_sign, at_least_sign, unequal_sign, becomes_sign, open_sign, close_sign, semicolon_sign, comma_sign, place_of, same}
 use Rattle.lexer.specs.Tokens.{Token as Word, mark, name, number, token, bad, too_big, end_of_text}
 use Rattle.lexer.specs.Cursor.{Cursor as Place, refuse}
 use Rattle.lexer.specs.Meaning.{Sight, sees, too_many, meaning}
 use Rattle.lexer.specs.Kinds.{kind_of}
+use Rattle.lexer.specs.Spelling.{token_of}
 use Rattle.lexer.specs.Stands.{told}
 use Rattle.lexer.specs.declared.token.Token.{Token}
 use Rattle.lexer.specs.declared.token.Token.TheVariants.{If, Then, Else, While, Do, Const, Var, Procedure, Program, Begin, End, Call, Read, Write, Odd, Add, Sub, Mul, Div, Eq, Lt, Gt, Le, Ge, Ne, EqSign, ParL, ParR, Semicolon, Comma, Identifier, Integer, LexicalError, TooBig, TooMany, EndOfText}
 use Rattle.grammar.specs.Reader.{is_mark}
 use Rattle.parser.specs.See.{refusal_in}
 
--- the kind of a word: its variant's number among the tokens of the code
+-- the kind of a word: that of the token that says it
 unfoldable pub kind_in : Word → ℕ
 kind_in (mark m) = place_of m
 kind_in (name n) = 30
 kind_in (number v) = 31
 
--- the number of a token's variant
-abbrev pub tag : Token → ℕ
-tag t = tag_of Tok.the_type t
-
 word : {v w : Word} → sees (token v) ≡ sees (token w) → v ≡ w
 word e = cc
 
--- which word a token says is told by its kind and by its variant
-pub known : (src : List ℕ) (t : Token) (w : Word) → meaning src t ≡ sees (token w) → (kind_of t ≡ kind_in w) × (tag t ≡ kind_in w)
+-- which word a token says is told by its kind
+pub known : (src : List ℕ) (t : Token) (w : Word) → meaning src t ≡ sees (token w) → kind_of t ≡ kind_in w
 unfolding kind_in place_of
-known src If w e = (ap kind_in (word e), ap kind_in (word e))
-known src Then w e = (ap kind_in (word e), ap kind_in (word e))
-known src Else w e = (ap kind_in (word e), ap kind_in (word e))
-known src While w e = (ap kind_in (word e), ap kind_in (word e))
-known src Do w e = (ap kind_in (word e), ap kind_in (word e))
-known src Const w e = (ap kind_in (word e), ap kind_in (word e))
-known src Var w e = (ap kind_in (word e), ap kind_in (word e))
-known src Procedure w e = (ap kind_in (word e), ap kind_in (word e))
-known src Program w e = (ap kind_in (word e), ap kind_in (word e))
-known src Begin w e = (ap kind_in (word e), ap kind_in (word e))
-known src End w e = (ap kind_in (word e), ap kind_in (word e))
-known src Call w e = (ap kind_in (word e), ap kind_in (word e))
-known src Read w e = (ap kind_in (word e), ap kind_in (word e))
-known src Write w e = (ap kind_in (word e), ap kind_in (word e))
-known src Odd w e = (ap kind_in (word e), ap kind_in (word e))
-known src Add w e = (ap kind_in (word e), ap kind_in (word e))
-known src Sub w e = (ap kind_in (word e), ap kind_in (word e))
-known src Mul w e = (ap kind_in (word e), ap kind_in (word e))
-known src Div w e = (ap kind_in (word e), ap kind_in (word e))
-known src Eq w e = (ap kind_in (word e), ap kind_in (word e))
-known src Lt w e = (ap kind_in (word e), ap kind_in (word e))
-known src Gt w e = (ap kind_in (word e), ap kind_in (word e))
-known src Le w e = (ap kind_in (word e), ap kind_in (word e))
-known src Ge w e = (ap kind_in (word e), ap kind_in (word e))
-known src Ne w e = (ap kind_in (word e), ap kind_in (word e))
-known src EqSign w e = (ap kind_in (word e), ap kind_in (word e))
-known src ParL w e = (ap kind_in (word e), ap kind_in (word e))
-known src ParR w e = (ap kind_in (word e), ap kind_in (word e))
-known src Semicolon w e = (ap kind_in (word e), ap kind_in (word e))
-known src Comma w e = (ap kind_in (word e), ap kind_in (word e))
-known src (Identifier a n) w e = (ap kind_in (word e), ap kind_in (word e))
-known src (Integer v) w e = (ap kind_in (word e), ap kind_in (word e))
-known src LexicalError w e = (cc, cc)
-known src TooBig w e = (cc, cc)
-known src TooMany w e = (cc, cc)
-known src EndOfText w e = (cc, cc)
+known src If w e = ap kind_in (word e)
+known src Then w e = ap kind_in (word e)
+known src Else w e = ap kind_in (word e)
+known src While w e = ap kind_in (word e)
+known src Do w e = ap kind_in (word e)
+known src Const w e = ap kind_in (word e)
+known src Var w e = ap kind_in (word e)
+known src Procedure w e = ap kind_in (word e)
+known src Program w e = ap kind_in (word e)
+known src Begin w e = ap kind_in (word e)
+known src End w e = ap kind_in (word e)
+known src Call w e = ap kind_in (word e)
+known src Read w e = ap kind_in (word e)
+known src Write w e = ap kind_in (word e)
+known src Odd w e = ap kind_in (word e)
+known src Add w e = ap kind_in (word e)
+known src Sub w e = ap kind_in (word e)
+known src Mul w e = ap kind_in (word e)
+known src Div w e = ap kind_in (word e)
+known src Eq w e = ap kind_in (word e)
+known src Lt w e = ap kind_in (word e)
+known src Gt w e = ap kind_in (word e)
+known src Le w e = ap kind_in (word e)
+known src Ge w e = ap kind_in (word e)
+known src Ne w e = ap kind_in (word e)
+known src EqSign w e = ap kind_in (word e)
+known src ParL w e = ap kind_in (word e)
+known src ParR w e = ap kind_in (word e)
+known src Semicolon w e = ap kind_in (word e)
+known src Comma w e = ap kind_in (word e)
+known src (Identifier a n) w e = ap kind_in (word e)
+known src (Integer v) w e = ap kind_in (word e)
+known src LexicalError w e = cc
+known src TooBig w e = cc
+known src TooMany w e = cc
+known src EndOfText w e = cc
 
 -- every mark has its place below those of the names and literals
 mark_first : (m : Mark) → ltb (place_of m) 30 ≡ true
@@ -123,7 +118,7 @@ abbrev pub plain : ℕ → Token
 plain n = get_or (If ∷ Then ∷ Else ∷ While ∷ Do ∷ Const ∷ Var ∷ Procedure ∷ Program ∷ Begin ∷ End ∷ Call ∷ Read ∷ Write ∷ Odd ∷ Add ∷ Sub ∷ Mul ∷ Div ∷ Eq ∷ Lt ∷ Gt ∷ Le ∷ Ge ∷ Ne ∷ EqSign ∷ ParL ∷ ParR ∷ Semicolon ∷ Comma ∷ EndOfText ∷ EndOfText ∷ LexicalError ∷ TooBig ∷ TooMany ∷ []) n EndOfText
 
 -- a token has no parts, or is a name or a number
-sorted : (t : Token) → (t ≡ plain (tag t)) ⊎ (((a : ℕ) × ((n : ℕ) × (t ≡ Identifier a n))) ⊎ ((v : ℕ) × (t ≡ Integer v)))
+sorted : (t : Token) → (t ≡ plain (kind_of t)) ⊎ (((a : ℕ) × ((n : ℕ) × (t ≡ Identifier a n))) ⊎ ((v : ℕ) × (t ≡ Integer v)))
 sorted If = inl refl
 sorted Then = inl refl
 sorted Else = inl refl
@@ -161,29 +156,105 @@ sorted TooBig = inl refl
 sorted TooMany = inl refl
 sorted EndOfText = inl refl
 
--- a token that is none of a variant's has not its number
-pub no_identifier : (t : Token) → ((a n : ℕ) → t ≡ Identifier a n → ⊥) → tag t ≡ 30 → ⊥
-no_identifier t h e =
+-- the token of a mark has its place, and no other token has
+pub kind_of_token : (m : Mark) → kind_of (token_of m) ≡ place_of m
+unfolding place_of
+kind_of_token if_word = refl
+kind_of_token then_word = refl
+kind_of_token else_word = refl
+kind_of_token while_word = refl
+kind_of_token do_word = refl
+kind_of_token const_word = refl
+kind_of_token var_word = refl
+kind_of_token procedure_word = refl
+kind_of_token program_word = refl
+kind_of_token begin_word = refl
+kind_of_token end_word = refl
+kind_of_token call_word = refl
+kind_of_token read_word = refl
+kind_of_token write_word = refl
+kind_of_token odd_word = refl
+kind_of_token plus_sign = refl
+kind_of_token minus_sign = refl
+kind_of_token times_sign = refl
+kind_of_token divide_sign = refl
+kind_of_token equal_sign = refl
+kind_of_token less_sign = refl
+kind_of_token greater_sign = refl
+kind_of_token at_most_sign = refl
+kind_of_token at_least_sign = refl
+kind_of_token unequal_sign = refl
+kind_of_token becomes_sign = refl
+kind_of_token open_sign = refl
+kind_of_token close_sign = refl
+kind_of_token semicolon_sign = refl
+kind_of_token comma_sign = refl
+
+plain_token : (m : Mark) → plain (place_of m) ≡ token_of m
+unfolding place_of
+plain_token if_word = refl
+plain_token then_word = refl
+plain_token else_word = refl
+plain_token while_word = refl
+plain_token do_word = refl
+plain_token const_word = refl
+plain_token var_word = refl
+plain_token procedure_word = refl
+plain_token program_word = refl
+plain_token begin_word = refl
+plain_token end_word = refl
+plain_token call_word = refl
+plain_token read_word = refl
+plain_token write_word = refl
+plain_token odd_word = refl
+plain_token plus_sign = refl
+plain_token minus_sign = refl
+plain_token times_sign = refl
+plain_token divide_sign = refl
+plain_token equal_sign = refl
+plain_token less_sign = refl
+plain_token greater_sign = refl
+plain_token at_most_sign = refl
+plain_token at_least_sign = refl
+plain_token unequal_sign = refl
+plain_token becomes_sign = refl
+plain_token open_sign = refl
+plain_token close_sign = refl
+plain_token semicolon_sign = refl
+plain_token comma_sign = refl
+
+pub of_kind : (t : Token) (m : Mark) → kind_of t ≡ place_of m → t ≡ token_of m
+of_kind t m e =
+    let f : place_of m < 30 = ltb-true (place_of m) 30 (mark_first m) in
     elim (sorted t) [
-      | inl p ↦ absurd (omega (arith, ap tag (rw e at p), e))
-      | inr (inl p) ↦ h p.0 p.1.0 p.1.1
-      | inr (inr p) ↦ absurd (omega (arith, ap tag p.1, e))
+      | inl p ↦ p ∙ ap plain e ∙ plain_token m
+      | inr (inl p) ↦ absurd (omega (arith, f, e, ap kind_of p.1.1))
+      | inr (inr p) ↦ absurd (omega (arith, f, e, ap kind_of p.1))
     ]
 
-pub no_integer : (t : Token) → ((v : ℕ) → t ≡ Integer v → ⊥) → tag t ≡ 31 → ⊥
+-- a token that is none of a variant's has not its number
+pub no_identifier : (t : Token) → ((a n : ℕ) → t ≡ Identifier a n → ⊥) → kind_of t ≡ 30 → ⊥
+no_identifier t h e =
+    elim (sorted t) [
+      | inl p ↦ absurd (omega (arith, ap kind_of (rw e at p), e))
+      | inr (inl p) ↦ h p.0 p.1.0 p.1.1
+      | inr (inr p) ↦ absurd (omega (arith, ap kind_of p.1, e))
+    ]
+
+pub no_integer : (t : Token) → ((v : ℕ) → t ≡ Integer v → ⊥) → kind_of t ≡ 31 → ⊥
 no_integer t h e =
     elim (sorted t) [
-      | inl p ↦ absurd (omega (arith, ap tag (rw e at p), e))
-      | inr (inl p) ↦ absurd (omega (arith, ap tag p.1.1, e))
+      | inl p ↦ absurd (omega (arith, ap kind_of (rw e at p), e))
+      | inr (inl p) ↦ absurd (omega (arith, ap kind_of p.1.1, e))
       | inr (inr p) ↦ h p.0 p.1
     ]
 
-pub no_plain : (t : Token) (n : ℕ) → (n ≡ 30 → ⊥) → (n ≡ 31 → ⊥) → (t ≡ plain n → ⊥) → tag t ≡ n → ⊥
+pub no_plain : (t : Token) (n : ℕ) → (n ≡ 30 → ⊥) → (n ≡ 31 → ⊥) → (t ≡ plain n → ⊥) → kind_of t ≡ n → ⊥
 no_plain t n a b h e =
     elim (sorted t) [
       | inl p ↦ h (rw e at p)
-      | inr (inl p) ↦ a (sym e ∙ ap tag p.1.1)
-      | inr (inr p) ↦ b (sym e ∙ ap tag p.1)
+      | inr (inl p) ↦ a (sym e ∙ ap kind_of p.1.1)
+      | inr (inr p) ↦ b (sym e ∙ ap kind_of p.1)
     ]
 
 -- a token that is looked at without a refusal

@@ -1,21 +1,33 @@
--- Answers of readers that may yield nothing: what a caller learns of each case, and how a refusal or nothing goes up.
-use mathlib.Core.Path.{◌≡◌, refl}
+-- Answers of readers that may yield nothing: what a caller learns of each case, and how nothing goes up.
+use Rattle.std.specs.Prelude.{Ok, Option, Some, None}
+use mathlib.Core.Path.{◌≡◌, ap}
 use mathlib.Core.List.{List}
 use Prim.Native.Nat.{ℕ, ◌+◌, ◌≤◌}
 use native.Mathlib.Omega.{arith}
 use lib.ListN.{length}
-use Rattle.lexer.specs.Cursor.{Cursor as Place, Reader}
+use Rattle.lexer.specs.Cursor.{Cursor as Place, Ans, got, Reader}
 use Rattle.lexer.specs.Stands.{Stands, left}
 use Rattle.lexer.specs.declared.cursor.Cursor.{Cursor}
-use Rattle.tree.specs.Layout.{Nodes}
-use Rattle.parser.specs.declared.answer.Answer.{Answer}
-use Rattle.parser.specs.declared.answer.Answer.TheVariants.{Node, Nothing, Refused}
+use Rattle.tree.specs.Layout.{Nodes, no_more}
+use Rattle.parser.specs.Answer.{Answer, Node, Nothing, try_of}
+use Rattle.parser.specs.Written.{Wrote}
 use Rattle.parser.specs.Meets.{Room, Safe, Quiet, Means, Meets}
-use Rattle.parser.proofs.Answers.{NoNode, Refuses, refused}
+use Rattle.parser.proofs.Writing.{wrote_kept}
 
--- the answer is not nothing
-abbrev pub NoQuiet : Answer → Type 0
-NoQuiet r = (d : Cursor) → r ≡ Nothing d → ⊥
+-- a reader yielded that
+pub none_at : {o : Option ℕ} {d : Cursor} → o ≡ None → try_of (Ok (o, d)) ≡ Nothing d
+none_at {d = d} e = ap (λ o. try_of (Ok (o, d))) e
+
+pub some_at : {o : Option ℕ} {e : ℕ} {d : Cursor} → o ≡ Some e → try_of (Ok (o, d)) ≡ Node e d
+some_at {d = d} e = ap (λ o. try_of (Ok (o, d))) e
+
+-- the definition yields some value, and what was used stands as it was
+pub record Went {B : Type 0} (src xs : List ℕ) (u : ℕ) (ys : List ℕ) (d : Cursor) (a : Ans B) : Type 0 where
+  pub value : B
+  pub at : Place
+  pub is : a ≡ got value at
+  pub stands : Stands src d at
+  pub wrote : Wrote xs u ys u no_more
 
 module _ {A B : Type 0} {yes : A → B} {no : B → Type 0} {nodes : A → Nodes} {src xs : List ℕ} {u : ℕ} {ys : List ℕ} {f : ℕ → Reader B} {m spare debt : ℕ} {c : Cursor} where
   module _ {r : Answer} (h : Meets yes no nodes src xs u ys f m spare debt c r) {d : Cursor} (q : r ≡ Nothing d) where
@@ -33,14 +45,16 @@ module _ {A B : Type 0} {yes : A → B} {no : B → Type 0} {nodes : A → Nodes
         let b = quiet m (omega arith) p.place p.stands in
         record { place = b.at; stands = b.stands; short = p.short; small = omega (arith, p.small); room = omega (arith, p.room, quiet_left) }
 
-  -- neither a node nor nothing: a refusal
-  pub stopped : {A' B' : Type 0} {yes' : A' → B'} {no' : B' → Type 0} {nodes' : A' → Nodes} {xs' : List ℕ} {u' : ℕ} {f' : ℕ → Reader B'} {m' spare' debt' : ℕ} {c' : Cursor}
-      → (r : Answer) → Meets yes no nodes src xs u ys f m spare debt c r → NoNode r → NoQuiet r → ((w : ℕ) → Refuses src f m c w → Refuses src f' m' c' w)
-      → Meets yes' no' nodes' src xs' u' ys f' m' spare' debt' c' r
+  -- whatever was yielded
+  pub try_left : (o : Option ℕ) (d : Cursor) → Meets yes no nodes src xs u ys f m spare debt c (try_of (Ok (o, d))) → left d ≤ left c
+  unfolding Safe
+  try_left None d h = h.safe
+  try_left (Some e) d h = h.safe.fewer
+
+  pub went : (o : Option ℕ) {d : Cursor} → Meets yes no nodes src xs u ys f m spare debt c (try_of (Ok (o, d))) → (n : ℕ) → m ≤ n → (k : Place) → Stands src c k → Went src xs u ys d (f n k)
   unfolding Means
-  stopped (Node e d) h o i g = absurd (o e d refl)
-  stopped (Nothing d) h o i g = absurd (i d refl)
-  stopped (Refused w) h o i g = refused (g w h.means)
+  went None h n l k s = let b = h.means n l k s in record { value = b.value; at = b.at; is = b.is; stands = b.stands; wrote = b.wrote }
+  went (Some e) h n l k s = let b = h.means n l k s in record { value = yes b.value; at = b.at; is = b.is; stands = b.stands; wrote = wrote_kept u (omega arith) b.wrote }
 
 -- the definition f yields nothing from where the cursor c stands; the cursor d stands after that, and what was used stands as it was
 abbrev pub Quietly : {A B : Type 0} → (A → B) → (B → Type 0) → (A → Nodes) → (src xs : List ℕ) → ℕ → List ℕ → (ℕ → Reader B) → ℕ → (c d : Cursor) → Type 0
@@ -51,15 +65,3 @@ pub nothing : {A B : Type 0} {yes : A → B} {no : B → Type 0} {nodes : A → 
     → left d ≤ left c → Quietly yes no nodes src xs u ys f m c d → Meets yes no nodes src xs u ys f m spare debt c (Nothing d)
 unfolding Safe Means
 nothing l q = record { safe = l; means = q }
-
--- a callee's answer that is no node goes up as it is
-module _ {A B A' B' : Type 0} {yes : A → B} {no : B → Type 0} {nodes : A → Nodes} {yes' : A' → B'} {no' : B' → Type 0} {nodes' : A' → Nodes} {src xs xs' : List ℕ} {u u' : ℕ} {ys : List ℕ}
-    {f : ℕ → Reader B} {f' : ℕ → Reader B'} {m m' spare spare' debt debt' : ℕ} {c c' : Cursor} where
-  pub gone_up : (r : Answer) → Meets yes no nodes src xs u ys f m spare debt c r → NoNode r → left c ≤ left c'
-      → ((w : ℕ) → Refuses src f m c w → Refuses src f' m' c' w)
-      → ((d : Cursor) → Quietly yes no nodes src xs u ys f m c d → Quietly yes' no' nodes' src xs' u' ys f' m' c' d)
-      → Meets yes' no' nodes' src xs' u' ys f' m' spare' debt' c' r
-  unfolding Safe Means
-  gone_up (Node e d) h o l g q = absurd (o e d refl)
-  gone_up (Nothing d) h o l g q = nothing (omega (arith, h.safe)) (q d h.means)
-  gone_up (Refused w) h o l g q = refused (g w h.means)

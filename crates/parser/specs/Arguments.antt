@@ -6,7 +6,7 @@ use Rattle.lexer.specs.declared.cursor.Cursor.{Cursor}
 use Rattle.tree.specs.Layout.{NodeKind, Nodes, branch, node_no, count}
 use Rattle.tree.specs.Nodes.{exp_nodes}
 use Rattle.tree.specs.Writing.{join}
-use Rattle.parser.specs.declared.answer.Answer.{Answer}
+use Rattle.parser.specs.Answer.{Answer}
 use Rattle.grammar.specs.Grammar.{exp}
 use Rattle.parser.specs.Parts.{only}
 use Rattle.parser.specs.Lists.{closed}

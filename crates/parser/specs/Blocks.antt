@@ -1,18 +1,15 @@
 -- Parts of the definitions of procedures and blocks that have a reader of their own.
-use Rattle.std.specs.Prelude.{◌≡◌, List, ℕ}
-use Rattle.std.proofs.Math.Option.{Option, none}
+use Rattle.std.specs.Prelude.{List, ℕ}
+use Rattle.std.proofs.Math.Option.{Option}
 use Rattle.lexer.specs.Marks.{procedure_word, open_sign, semicolon_sign}
 use Rattle.lexer.specs.Tokens.{Name}
 use Rattle.lexer.specs.Cursor.{Reader}
-use Rattle.lexer.specs.declared.cursor.Cursor.{Cursor}
 use Rattle.tree.specs.Tree.{Const, Procs, Block}
-use Rattle.tree.specs.Layout.{Nodes, no_more, member}
+use Rattle.tree.specs.Layout.{Nodes, member}
 use Rattle.tree.specs.Nodes.{name_node, names_node, consts_node, procs_node}
 use Rattle.grammar.specs.Reader.{pure, ◌>>=◌, ◌>>◌, want, want_name}
-use Rattle.grammar.specs.Grammar.{const_part, var_part, arg_part, inner_of, later_of, body_of, map_o}
+use Rattle.grammar.specs.Grammar.{const_part, var_part, arg_part, inner_of, body_of, map_o}
 use Rattle.parser.specs.Parts.{only}
-use Rattle.parser.specs.declared.answer.Answer.{Answer}
-use Rattle.parser.specs.Meets.{Meets}
 
 -- constants and variables
 pub record Decls : Type 0 where
@@ -54,11 +51,3 @@ module _ (src : List ℕ) where
   -- the main block
   unfoldable pub block : ℕ → Reader (Option Block)
   block f = front f 0 >>= λ h. body_of src f 0 >>= λ b. pure (map_o (λ s. record { consts = h.consts; vars = h.vars; procs = h.procs; main = s }) b)
-
-  -- {`;` procedure} after a body that yields nothing: read, and nothing
-  unfoldable pub quiet_later : ℕ → ℕ → Reader (Option Procs)
-  quiet_later f o = later_of src f o >>= λ l. pure none
-
--- a reader that yields nothing at best
-abbrev pub Silent : (src xs : List ℕ) → ℕ → List ℕ → (ℕ → Reader (Option Procs)) → ℕ → Cursor → Answer → Type 0
-Silent src xs u ys f m c r = Meets {A = ⊥} (λ x. none) (λ v. v ≡ none) (λ x. no_more) src xs u ys f m 0 0 c r

@@ -1,10 +1,10 @@
 pub mod Written
 pub mod See
+pub mod Answer
 pub mod Meets
 pub mod Parts
 pub mod Lists
 pub mod Blocks
 pub mod Pieces
-pub mod Quiet
 pub mod Entry
 pub mod Arguments

@@ -4,8 +4,7 @@ use Rattle.lexer.specs.Marks.{Mark}
 use Rattle.lexer.specs.Cursor.{Cursor as Place, refuse, Reader}
 use Rattle.lexer.specs.Stands.{Stands}
 use Rattle.lexer.specs.declared.cursor.Cursor.{Cursor}
-use Rattle.parser.specs.declared.answer.Answer.{Answer}
-use Rattle.parser.specs.declared.answer.Answer.TheVariants.{Node, Nothing, Refused}
+use Rattle.parser.specs.Answer.{Answer, Node, Nothing, Refused}
 use Rattle.grammar.specs.Reader.{pure, ◌>>=◌, ◌>>◌, want, commas}
 use Rattle.parser.specs.See.{Took}
 use Rattle.parser.specs.Written.{Seals}

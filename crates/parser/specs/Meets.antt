@@ -6,8 +6,7 @@ use Rattle.lexer.specs.Cursor.{Cursor as Place, Ans, got, refuse, Reader}
 use Rattle.lexer.specs.Stands.{Stands, left}
 use Rattle.lexer.specs.declared.cursor.Cursor.{Cursor}
 use Rattle.tree.specs.Layout.{Nodes, no_more}
-use Rattle.parser.specs.declared.answer.Answer.{Answer}
-use Rattle.parser.specs.declared.answer.Answer.TheVariants.{Node, Nothing, Refused}
+use Rattle.parser.specs.Answer.{Answer, Node, Nothing, Refused}
 use Rattle.parser.specs.Written.{Wrote}
 
 -- what a reader asks: a cursor that stands somewhere in a text that is not too long, and room for the tokens left and `slack` numbers more

@@ -1,10 +1,14 @@
 -- Parts of the grammar's definitions that have a reader of their own.
 use Rattle.std.specs.Prelude.{◌≡◌, List, ℕ}
-use Rattle.std.proofs.Math.Option.{none, some}
+use Rattle.std.specs.Prelude as O
+use Rattle.std.proofs.Math.Option.{Option, none, some}
+use Rattle.numbers.specs.declared.arithmetic.Compare.{Compare as Comparison}
+use Rattle.numbers.specs.Answers.{compare_of}
+use Rattle.numbers.specs.Arithmetic.{Compare}
 use Rattle.lexer.specs.Marks.{plus_sign, minus_sign, close_sign}
 use Rattle.tree.specs.Tree.{Exp, neg, brackets, Cond, is_odd}
 use Rattle.tree.specs.Layout.{Node, Nodes, no_more, member}
-use Rattle.tree.specs.Nodes.{exp_node, cond_node, compare_no}
+use Rattle.tree.specs.Nodes.{exp_node, cond_node}
 use Rattle.lexer.specs.Tokens.{Token as Word, token}
 use Rattle.lexer.specs.Meaning.{sees, meaning}
 use Rattle.lexer.specs.declared.token.Token.{Token}
@@ -24,13 +28,14 @@ operand op e = only (exp_node op e)
 abbrev pub condition : Cond → Nodes
 condition c = only (cond_node c)
 
--- the number of the comparison that a word is, 0 if it is none
-unfoldable pub comparing : Word → ℕ
-comparing w = elim (comparison_of w) [ none ↦ 0 | some r ↦ compare_no r ]
+-- the comparison that the code names, or none
+abbrev pub comparing : O.Option Comparison → Option Compare
+comparing (O.Some c) = some (compare_of c)
+comparing O.None = none
 
 -- what `comparison` answers for a token
-pub record Compares (t : Token) (r : ℕ) : Type 0 where
-  pub compares : (src : List ℕ) (w : Word) → meaning src t ≡ sees (token w) → r ≡ comparing w
+pub record Compares (t : Token) (r : O.Option Comparison) : Type 0 where
+  pub compares : (src : List ℕ) (w : Word) → meaning src t ≡ sees (token w) → comparison_of w ≡ comparing r
 
 module _ (src : List ℕ) where
   -- the first term after a leading minus, which negates it whole

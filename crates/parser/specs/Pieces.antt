@@ -8,7 +8,7 @@ use Rattle.lexer.specs.declared.cursor.Cursor.{Cursor}
 use Rattle.tree.specs.Tree.{Stmt, assign, while, call, read_s, write_s, Stmts}
 use Rattle.tree.specs.Layout.{Nodes, no_more}
 use Rattle.tree.specs.Nodes.{stmt_node, body_node}
-use Rattle.parser.specs.declared.answer.Answer.{Answer}
+use Rattle.parser.specs.Answer.{Answer}
 use Rattle.grammar.specs.Reader.{pure, ◌>>=◌, ◌>>◌, want, if_next, want_name, commas}
 use Rattle.grammar.specs.Grammar.{exp, cond, stmt, stmts, if_node, map_o}
 use Rattle.parser.specs.Parts.{only}

@@ -1,15 +1,24 @@
 -- What `see` and `want` promise.
-use Rattle.std.specs.Prelude.{◌≡◌, List, true, false, ℕ, suc, eqb}
+use Rattle.std.specs.Prelude.{◌≡◌, ◌⊎◌, Result, Ok, Err, Option, Some, None, List, ℕ, suc}
 use Rattle.lexer.specs.Marks.{Mark}
+use Rattle.numbers.specs.declared.refusal.Refusal.{Refusal}
+use Rattle.numbers.specs.Refusals.{number_of}
+use Rattle.numbers.specs.declared.arithmetic.Arith.{Arith as Operator}
+use Rattle.numbers.specs.Answers.{arith_of}
+use Rattle.numbers.specs.Arithmetic.{Arith}
 use Rattle.numbers.specs.Panel.{bad_token, literal_too_big, token_missing, too_many_tokens}
 use Rattle.lexer.specs.Tokens.{Token as Word, token, bad, too_big, end_of_text}
 use Rattle.lexer.specs.Cursor.{Cursor as Place, got, refuse, look}
 use Rattle.lexer.specs.Meaning.{Sight, sees, too_many, meaning, Inside}
 use Rattle.lexer.specs.Stands.{Stands, taken, past, left}
+use Rattle.lexer.specs.Spelling.{token_of}
+use Rattle.lexer.specs.declared.token.Token.{Token}
 use Rattle.lexer.specs.declared.cursor.Cursor.{Cursor}
-use Rattle.parser.specs.declared.see.Seen.{Seen}
-use Rattle.parser.specs.declared.see.Seen.TheVariants.{At, Refused}
 use Rattle.grammar.specs.Reader.{want}
+
+-- what `see` and `want` answer: the cursor, or a refusal
+abbrev pub Seen : Type 0
+Seen = Result Cursor Refusal
 
 -- the number that looking is refused with, by what is seen; 0 where it is not
 abbrev pub refusal_in : Sight → ℕ
@@ -31,20 +40,16 @@ pub record Saw (src : List ℕ) (c d : Cursor) (k : Place) (w : Word) : Type 0 w
 
 -- by what `see` answers
 unfoldable pub Looked : List ℕ → Cursor → Seen → Type 0
-Looked src c (At d) = (k : Place) → Stands src c k → (w : Word) × Saw src c d k w
-Looked src c (Refused n) = (k : Place) → Stands src c k → look src k ≡ refuse n
+Looked src c (Ok d) = (k : Place) → Stands src c k → (w : Word) × Saw src c d k w
+Looked src c (Err n) = (k : Place) → Stands src c k → look src k ≡ refuse (number_of n)
 
 pub record Sees (src : List ℕ) (c : Cursor) (r : Seen) : Type 0 where
   pub looked : Looked src c r
 
--- the number of a refusal
-abbrev pub why_of : Seen → ℕ
-why_of (At c) = 0
-why_of (Refused n) = n
-
--- how the operand after a mark joins what stands before it: two marks are operators, with their numbers
-unfoldable pub operator_of : (a x b y m : ℕ) → ℕ
-operator_of a x b y m = elim (eqb m a) [ true ↦ x | false ↦ elim (eqb m b) [ true ↦ y | false ↦ 0 ] ]
+-- how the operand after a token joins what stands before it: by aa after the mark ma, by ab after mb, and else there is none
+unfoldable pub Joins : Mark → Arith → Mark → Arith → Token → Option Operator → Type 0
+Joins ma aa mb ab t (Some o) = ((t ≡ token_of ma) × (arith_of o ≡ aa)) ⊎ ((t ≡ token_of ma → ⊥) × ((t ≡ token_of mb) × (arith_of o ≡ ab)))
+Joins ma aa mb ab t None = (t ≡ token_of ma → ⊥) × (t ≡ token_of mb → ⊥)
 
 -- the mark m at the place k was taken by a cursor that stood there as c
 pub record Took (src : List ℕ) (m : Mark) (c d : Cursor) (k : Place) : Type 0 where
@@ -54,8 +59,8 @@ pub record Took (src : List ℕ) (m : Mark) (c d : Cursor) (k : Place) : Type 0 
 
 -- by what `want` answers
 unfoldable pub Wanted : List ℕ → Mark → Cursor → Seen → Type 0
-Wanted src m c (At d) = (k : Place) → Stands src c k → Took src m c d k
-Wanted src m c (Refused n) = (k : Place) → Stands src c k → want src m k ≡ refuse n
+Wanted src m c (Ok d) = (k : Place) → Stands src c k → Took src m c d k
+Wanted src m c (Err n) = (k : Place) → Stands src c k → want src m k ≡ refuse (number_of n)
 
 pub record Wants (src : List ℕ) (m : Mark) (c : Cursor) (r : Seen) : Type 0 where
   pub wanted : Wanted src m c r

@@ -1,108 +1,89 @@
 // Expressions, terms and factors. `used` is where the node goes, `op` how it joins what stands before it, `depth` how many constructs are open.
-ghost use Rattle.std.specs.Prelude.{◌≡◌, ◌+◌, ◌*◌};
+ghost use Rattle.std.specs.Prelude.{◌+◌, ◌*◌};
+ghost use Rattle.numbers.specs.Arithmetic.{add, sub, mul, div};
+ghost use Rattle.lexer.specs.Marks.{plus_sign, minus_sign, times_sign, divide_sign};
 ghost use Rattle.lexer.specs.Stands.{left};
 ghost use Rattle.grammar.specs.Grammar.{exp, term, factor};
 ghost use Rattle.parser.specs.Parts.{operand, negated, signed, bracketed};
+ghost use Rattle.parser.specs.Answer.{node_of};
 ghost use Rattle.parser.specs.Meets.{Room, Reads};
-ghost use Rattle.parser.specs.See.{operator_of};
+ghost use Rattle.parser.specs.See.{Joins};
 
-use crate::answer::Answer;
-use crate::nodes::seal;
-use crate::see;
-use crate::see::Seen;
-use lexer::{Cursor, Token, kinds};
+use crate::nodes::{FIRST, joined, seal};
+use crate::see::{see, want};
+use lexer::{Cursor, Token};
+use numbers::arithmetic::Arith;
+use numbers::limits::MAX_OPEN;
+use numbers::refusal::Refusal;
+use tree::Kind;
 
-// How many constructs may be open at once, and the panel's number for one more.
-pub const MAX_OPEN: usize = 64;
-
-pub const TOO_MANY_OPEN: usize = 7;
-
-// How the member after an operator joins what stands before it; 0 for what is no such operator.
-pub const NO_OP: u32 = 0;
-
-const ADD: u32 = 1;
-
-const SUB: u32 = 2;
-
-const MUL: u32 = 3;
-
-const DIV: u32 = 4;
-
-fn sum_op(m: usize) -> u32
-    ensures { result ≡ operator_of 15 1 16 2 m }
+// How the term after a sign joins what stands before it.
+fn sum_op(t: Token) -> Option<Arith>
+    ensures { Joins plus_sign add minus_sign sub t result }
 {
-    if m == kinds::PLUS {
-        return ADD;
+    match t {
+        Token::Add => Some(Arith::Add),
+        Token::Sub => Some(Arith::Sub),
+        _ => None,
     }
-    if m == kinds::MINUS {
-        return SUB;
-    }
-    NO_OP
 }
 
-fn product_op(m: usize) -> u32
-    ensures { result ≡ operator_of 17 3 18 4 m }
+// How the factor after a sign joins what stands before it.
+fn product_op(t: Token) -> Option<Arith>
+    ensures { Joins times_sign mul divide_sign div t result }
 {
-    if m == kinds::TIMES {
-        return MUL;
+    match t {
+        Token::Mul => Some(Arith::Mul),
+        Token::Div => Some(Arith::Div),
+        _ => None,
     }
-    if m == kinds::DIVIDE {
-        return DIV;
-    }
-    NO_OP
 }
 
 // [+ or -] term {+ or - term}
 #[cycle(parse_brackets_parse_exp_parse_factor_parse_negated_parse_signed_parse_term)]
-pub fn parse_exp(text: &[u8], tree: &mut [u32], used: usize, depth: usize, cur: Cursor) -> Answer
+pub fn parse_exp(
+    text: &[u8],
+    tree: &mut [u32],
+    used: usize,
+    depth: usize,
+    cur: Cursor,
+) -> Result<(usize, Cursor), Refusal>
     requires { Room text.now tree.old used 8 cur }
-    ensures { Reads (operand 0) text.now tree.old used tree.new (λ n. exp text.now n depth) (8 * left cur + 3) 0 0 cur result }
+    ensures { Reads (operand 0) text.now tree.old used tree.new (λ n. exp text.now n depth) (8 * left cur + 3) 0 0 cur (node_of result) }
 {
-    let r = parse_signed(text, tree, used + tree::HEADER, depth, cur);
-    let Answer::Node(first, start) = r else {
-        return r;
-    };
-    let mut end = first;
+    let (mut end, mut c) = parse_signed(text, tree, used + tree::HEADER, depth, cur)?;
     let mut count = 1;
-    let mut c = start;
     loop {
-        let s = see::see(text, c);
-        let Seen::At(d) = s else {
-            return Answer::Refused(see::why(s));
+        let d = see(text, c)?;
+        let Some(sign) = sum_op(d.token) else {
+            seal(tree, used, Kind::Chain, FIRST, count, end);
+            return Ok((end, d));
         };
-        let op = sum_op(see::mark(d));
-        if op == NO_OP {
-            seal(tree, used, tree::CHAIN, NO_OP, count, end);
-            return Answer::Node(end, d);
-        }
-        let q = parse_term(text, tree, end, op, depth, d.take());
-        let Answer::Node(e, f) = q else {
-            return q;
-        };
+        let (e, f) = parse_term(text, tree, end, joined(sign), depth, d.take())?;
         end = e;
-        count = count + 1;
+        count += 1;
         c = f;
     }
 }
 
 // [+ or -] term
 #[cycle(parse_brackets_parse_exp_parse_factor_parse_negated_parse_signed_parse_term)]
-pub fn parse_signed(text: &[u8], tree: &mut [u32], used: usize, depth: usize, cur: Cursor) -> Answer
+pub fn parse_signed(
+    text: &[u8],
+    tree: &mut [u32],
+    used: usize,
+    depth: usize,
+    cur: Cursor,
+) -> Result<(usize, Cursor), Refusal>
     requires { Room text.now tree.old used 4 cur }
-    ensures { Reads (operand 0) text.now tree.old used tree.new (λ n. signed text.now n depth) (8 * left cur + 2) 4 0 cur result }
+    ensures { Reads (operand 0) text.now tree.old used tree.new (λ n. signed text.now n depth) (8 * left cur + 2) 4 0 cur (node_of result) }
 {
-    let s = see::see(text, cur);
-    let Seen::At(c) = s else {
-        return Answer::Refused(see::why(s));
-    };
-    let m = see::mark(c);
-    if m == kinds::PLUS {
-        return parse_term(text, tree, used, NO_OP, depth, c.take());
+    let c = see(text, cur)?;
+    match c.token {
+        Token::Add => parse_term(text, tree, used, FIRST, depth, c.take()),
+        Token::Sub => parse_negated(text, tree, used, depth, c.take()),
+        _ => parse_term(text, tree, used, FIRST, depth, c),
     }
-    if m == kinds::MINUS {
-        return parse_negated(text, tree, used, depth, c.take());
-    }
-    parse_term(text, tree, used, NO_OP, depth, c)
 }
 
 // The first term after a leading minus, which negates it whole.
@@ -113,16 +94,13 @@ pub fn parse_negated(
     used: usize,
     depth: usize,
     cur: Cursor,
-) -> Answer
+) -> Result<(usize, Cursor), Refusal>
     requires { Room text.now tree.old used 8 cur }
-    ensures { Reads (operand 0) text.now tree.old used tree.new (λ n. negated text.now n depth) (8 * left cur + 2) 0 0 cur result }
+    ensures { Reads (operand 0) text.now tree.old used tree.new (λ n. negated text.now n depth) (8 * left cur + 2) 0 0 cur (node_of result) }
 {
-    let r = parse_term(text, tree, used + tree::HEADER, NO_OP, depth, cur);
-    let Answer::Node(end, c) = r else {
-        return r;
-    };
-    seal(tree, used, tree::NEG, NO_OP, 1, end);
-    Answer::Node(end, c)
+    let (end, c) = parse_term(text, tree, used + tree::HEADER, FIRST, depth, cur)?;
+    seal(tree, used, Kind::Neg, FIRST, 1, end);
+    Ok((end, c))
 }
 
 // factor {* or / factor}
@@ -134,33 +112,21 @@ pub fn parse_term(
     op: u32,
     depth: usize,
     cur: Cursor,
-) -> Answer
+) -> Result<(usize, Cursor), Refusal>
     requires { Room text.now tree.old used 4 cur }
-    ensures { Reads (operand op) text.now tree.old used tree.new (λ n. term text.now n depth) (8 * left cur + 2) 4 0 cur result }
+    ensures { Reads (operand op) text.now tree.old used tree.new (λ n. term text.now n depth) (8 * left cur + 2) 4 0 cur (node_of result) }
 {
-    let r = parse_factor(text, tree, used + tree::HEADER, NO_OP, depth, cur);
-    let Answer::Node(first, start) = r else {
-        return r;
-    };
-    let mut end = first;
+    let (mut end, mut c) = parse_factor(text, tree, used + tree::HEADER, FIRST, depth, cur)?;
     let mut count = 1;
-    let mut c = start;
     loop {
-        let s = see::see(text, c);
-        let Seen::At(d) = s else {
-            return Answer::Refused(see::why(s));
+        let d = see(text, c)?;
+        let Some(sign) = product_op(d.token) else {
+            seal(tree, used, Kind::Chain, op, count, end);
+            return Ok((end, d));
         };
-        let next = product_op(see::mark(d));
-        if next == NO_OP {
-            seal(tree, used, tree::CHAIN, op, count, end);
-            return Answer::Node(end, d);
-        }
-        let q = parse_factor(text, tree, end, next, depth, d.take());
-        let Answer::Node(e, f) = q else {
-            return q;
-        };
+        let (e, f) = parse_factor(text, tree, end, joined(sign), depth, d.take())?;
         end = e;
-        count = count + 1;
+        count += 1;
         c = f;
     }
 }
@@ -174,28 +140,22 @@ pub fn parse_factor(
     op: u32,
     depth: usize,
     cur: Cursor,
-) -> Answer
+) -> Result<(usize, Cursor), Refusal>
     requires { Room text.now tree.old used 0 cur }
-    ensures { Reads (operand op) text.now tree.old used tree.new (λ n. factor text.now n depth) (8 * left cur + 1) 8 0 cur result }
+    ensures { Reads (operand op) text.now tree.old used tree.new (λ n. factor text.now n depth) (8 * left cur + 1) 8 0 cur (node_of result) }
 {
-    let s = see::see(text, cur);
-    let Seen::At(c) = s else {
-        return Answer::Refused(see::why(s));
-    };
-    let t = c.token;
-    match t {
-        Token::Identifier(at, n) => {
-            Answer::Node(tree::push_name(tree, used, op, at, n), c.take())
-        }
-        Token::Integer(v) => Answer::Node(tree::push_number(tree, used, op, v as i64), c.take()),
+    let c = see(text, cur)?;
+    match c.token {
+        Token::Identifier(at, n) => Ok((tree::push_name(tree, used, op, at, n), c.take())),
+        Token::Integer(v) => Ok((tree::push_number(tree, used, op, v as i64), c.take())),
         Token::ParL => {
             if depth < MAX_OPEN {
                 parse_brackets(text, tree, used, op, depth + 1, c.take())
             } else {
-                Answer::Refused(TOO_MANY_OPEN)
+                Err(Refusal::TooManyOpen)
             }
         }
-        _ => Answer::Refused(see::TOKEN_MISSING),
+        _ => Err(Refusal::TokenMissing),
     }
 }
 
@@ -208,18 +168,12 @@ pub fn parse_brackets(
     op: u32,
     depth: usize,
     cur: Cursor,
-) -> Answer
+) -> Result<(usize, Cursor), Refusal>
     requires { Room text.now tree.old used 12 cur }
-    ensures { Reads (operand op) text.now tree.old used tree.new (λ n. bracketed text.now n depth) (8 * left cur + 3) 8 0 cur result }
+    ensures { Reads (operand op) text.now tree.old used tree.new (λ n. bracketed text.now n depth) (8 * left cur + 3) 8 0 cur (node_of result) }
 {
-    let r = parse_exp(text, tree, used + tree::HEADER, depth, cur);
-    let Answer::Node(end, c) = r else {
-        return r;
-    };
-    let s = see::want(text, c, kinds::CLOSE);
-    let Seen::At(d) = s else {
-        return Answer::Refused(see::why(s));
-    };
-    seal(tree, used, tree::BRACKETS, op, 1, end);
-    Answer::Node(end, d)
+    let (end, c) = parse_exp(text, tree, used + tree::HEADER, depth, cur)?;
+    let d = want(text, c, Token::ParR)?;
+    seal(tree, used, Kind::Brackets, op, 1, end);
+    Ok((end, d))
 }

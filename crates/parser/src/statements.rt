@@ -2,17 +2,18 @@
 ghost use Rattle.std.specs.Prelude.{◌+◌, ◌*◌};
 ghost use Rattle.lexer.specs.Stands.{left};
 ghost use Rattle.grammar.specs.Grammar.{stmt, body_of, stmts};
+ghost use Rattle.parser.specs.Answer.{try_of, quiet_of};
 ghost use Rattle.parser.specs.Pieces.{statement, body, looped, conditional, else_part, quiet_rest, Quiets};
 ghost use Rattle.parser.specs.Meets.{Room, Tries};
 
-use crate::answer::Answer;
 use crate::conditions::parse_l_exp;
-use crate::expressions::{MAX_OPEN, TOO_MANY_OPEN};
 use crate::nodes::seal;
-use crate::see::Seen;
+use crate::see::{see, want};
 use crate::simple::{parse_assign, parse_call, parse_read, parse_write};
-use crate::{answer, see};
-use lexer::{Cursor, Token, kinds};
+use lexer::{Cursor, Token};
+use numbers::limits::MAX_OPEN;
+use numbers::refusal::Refusal;
+use tree::Kind;
 
 // A statement place: the test for one construct too many comes before the token is judged, and a token that starts no statement yields nothing.
 #[cycle(parse_body_parse_else_part_parse_if_parse_statement_parse_statements_parse_while_read_on)]
@@ -22,19 +23,15 @@ pub fn parse_statement(
     used: usize,
     depth: usize,
     cur: Cursor,
-) -> Answer
+) -> Result<(Option<usize>, Cursor), Refusal>
     requires { Room text.now tree.old used 4 cur }
-    ensures { Tries statement text.now tree.old used tree.new (λ n. stmt text.now n depth) (8 * left cur + 3) 8 0 cur result }
+    ensures { Tries statement text.now tree.old used tree.new (λ n. stmt text.now n depth) (8 * left cur + 3) 8 0 cur (try_of result) }
 {
     if MAX_OPEN <= depth {
-        return Answer::Refused(TOO_MANY_OPEN);
+        return Err(Refusal::TooManyOpen);
     }
-    let s = see::see(text, cur);
-    let Seen::At(c) = s else {
-        return Answer::Refused(see::why(s));
-    };
-    let t = c.token;
-    match t {
+    let c = see(text, cur)?;
+    match c.token {
         Token::Identifier(at, n) => parse_assign(text, tree, used, depth + 1, at, n, c.take()),
         Token::If => parse_if(text, tree, used, depth + 1, c.take()),
         Token::While => parse_while(text, tree, used, depth + 1, c.take()),
@@ -42,64 +39,63 @@ pub fn parse_statement(
         Token::Begin => parse_body(text, tree, used, depth + 1, c),
         Token::Read => parse_read(text, tree, used, depth + 1, c.take()),
         Token::Write => parse_write(text, tree, used, depth + 1, c.take()),
-        _ => Answer::Nothing(c),
+        _ => Ok((None, c)),
     }
 }
 
 // cond `do` st, after `while`
 #[cycle(parse_body_parse_else_part_parse_if_parse_statement_parse_statements_parse_while_read_on)]
-pub fn parse_while(text: &[u8], tree: &mut [u32], used: usize, depth: usize, cur: Cursor) -> Answer
+pub fn parse_while(
+    text: &[u8],
+    tree: &mut [u32],
+    used: usize,
+    depth: usize,
+    cur: Cursor,
+) -> Result<(Option<usize>, Cursor), Refusal>
     requires { Room text.now tree.old used 16 cur }
-    ensures { Tries statement text.now tree.old used tree.new (λ n. looped text.now n depth) (8 * left cur + 3) 8 0 cur result }
+    ensures { Tries statement text.now tree.old used tree.new (λ n. looped text.now n depth) (8 * left cur + 3) 8 0 cur (try_of result) }
 {
-    let r = parse_l_exp(text, tree, used + tree::HEADER, depth, cur);
-    let Answer::Node(tested, c) = r else {
-        return r;
+    let (tested, c) = parse_l_exp(text, tree, used + tree::HEADER, depth, cur)?;
+    let d = want(text, c, Token::Do)?;
+    let (repeated, e) = parse_statement(text, tree, tested, depth, d)?;
+    let Some(end) = repeated else {
+        return Ok((None, e));
     };
-    let s = see::want(text, c, kinds::DO);
-    let Seen::At(d) = s else {
-        return Answer::Refused(see::why(s));
-    };
-    let q = parse_statement(text, tree, tested, depth, d);
-    let Answer::Node(end, e) = q else {
-        return q;
-    };
-    seal(tree, used, tree::WHILE, 0, 2, end);
-    Answer::Node(end, e)
+    seal(tree, used, Kind::While, 0, 2, end);
+    Ok((Some(end), e))
 }
 
 // cond `then` st [`else` st], after `if`: the else part is read whatever the then part yields. Nothing in the then part makes the whole nothing; nothing in
 // the else part is absorbed.
 #[cycle(parse_body_parse_else_part_parse_if_parse_statement_parse_statements_parse_while_read_on)]
-pub fn parse_if(text: &[u8], tree: &mut [u32], used: usize, depth: usize, cur: Cursor) -> Answer
+pub fn parse_if(
+    text: &[u8],
+    tree: &mut [u32],
+    used: usize,
+    depth: usize,
+    cur: Cursor,
+) -> Result<(Option<usize>, Cursor), Refusal>
     requires { Room text.now tree.old used 16 cur }
-    ensures { Tries statement text.now tree.old used tree.new (λ n. conditional text.now n depth) (8 * left cur + 3) 8 0 cur result }
+    ensures { Tries statement text.now tree.old used tree.new (λ n. conditional text.now n depth) (8 * left cur + 3) 8 0 cur (try_of result) }
 {
-    let r = parse_l_exp(text, tree, used + tree::HEADER, depth, cur);
-    let Answer::Node(tested, c) = r else {
-        return r;
+    let (tested, c) = parse_l_exp(text, tree, used + tree::HEADER, depth, cur)?;
+    let d = want(text, c, Token::Then)?;
+    let (then_part, e) = parse_statement(text, tree, tested, depth, d)?;
+    let Some(done) = then_part else {
+        let (_, f) = parse_else_part(text, tree, tested, depth, e)?;
+        return Ok((None, f));
     };
-    let s = see::want(text, c, kinds::THEN);
-    let Seen::At(d) = s else {
-        return Answer::Refused(see::why(s));
-    };
-    let q = parse_statement(text, tree, tested, depth, d);
-    if let Answer::Nothing(e) = q {
-        return answer::quieted(parse_else_part(text, tree, tested, depth, e));
+    let (else_part, g) = parse_else_part(text, tree, done, depth, e)?;
+    match else_part {
+        Some(end) => {
+            seal(tree, used, Kind::If, 0, 3, end);
+            Ok((Some(end), g))
+        }
+        None => {
+            seal(tree, used, Kind::If, 0, 2, done);
+            Ok((Some(done), g))
+        }
     }
-    let Answer::Node(done, f) = q else {
-        return q;
-    };
-    let p = parse_else_part(text, tree, done, depth, f);
-    if let Answer::Nothing(g) = p {
-        seal(tree, used, tree::IF, 0, 2, done);
-        return Answer::Node(done, g);
-    }
-    let Answer::Node(end, h) = p else {
-        return p;
-    };
-    seal(tree, used, tree::IF, 0, 3, end);
-    Answer::Node(end, h)
 }
 
 // [`else` st]: where it is not there, nothing
@@ -110,39 +106,36 @@ pub fn parse_else_part(
     used: usize,
     depth: usize,
     cur: Cursor,
-) -> Answer
+) -> Result<(Option<usize>, Cursor), Refusal>
     requires { Room text.now tree.old used 0 cur }
-    ensures { Tries statement text.now tree.old used tree.new (λ n. else_part text.now n depth) (8 * left cur + 3) 8 0 cur result }
+    ensures { Tries statement text.now tree.old used tree.new (λ n. else_part text.now n depth) (8 * left cur + 3) 8 0 cur (try_of result) }
 {
-    let s = see::see(text, cur);
-    let Seen::At(c) = s else {
-        return Answer::Refused(see::why(s));
+    let c = see(text, cur)?;
+    let Token::Else = c.token else {
+        return Ok((None, c));
     };
-    if see::mark(c) != kinds::ELSE {
-        return Answer::Nothing(c);
-    }
     parse_statement(text, tree, used, depth, c.take())
 }
 
 // `begin` statement {`;` statement} `end`; with a member that yields nothing the `end` is left unread
 #[cycle(parse_body_parse_else_part_parse_if_parse_statement_parse_statements_parse_while_read_on)]
-pub fn parse_body(text: &[u8], tree: &mut [u32], used: usize, depth: usize, cur: Cursor) -> Answer
+pub fn parse_body(
+    text: &[u8],
+    tree: &mut [u32],
+    used: usize,
+    depth: usize,
+    cur: Cursor,
+) -> Result<(Option<usize>, Cursor), Refusal>
     requires { Room text.now tree.old used 4 cur }
-    ensures { Tries body text.now tree.old used tree.new (λ n. body_of text.now n depth) (8 * left cur + 1) 8 0 cur result }
+    ensures { Tries body text.now tree.old used tree.new (λ n. body_of text.now n depth) (8 * left cur + 1) 8 0 cur (try_of result) }
 {
-    let s = see::want(text, cur, kinds::BEGIN);
-    let Seen::At(c) = s else {
-        return Answer::Refused(see::why(s));
+    let c = want(text, cur, Token::Begin)?;
+    let (members, d) = parse_statements(text, tree, used, depth, c)?;
+    let Some(end) = members else {
+        return Ok((None, d));
     };
-    let r = parse_statements(text, tree, used, depth, c);
-    let Answer::Node(end, d) = r else {
-        return r;
-    };
-    let z = see::want(text, d, kinds::END);
-    let Seen::At(e) = z else {
-        return Answer::Refused(see::why(z));
-    };
-    Answer::Node(end, e)
+    let e = want(text, d, Token::End)?;
+    Ok((Some(end), e))
 }
 
 // statement {`;` statement}: the body's node, at `used`
@@ -153,55 +146,49 @@ pub fn parse_statements(
     used: usize,
     depth: usize,
     cur: Cursor,
-) -> Answer
+) -> Result<(Option<usize>, Cursor), Refusal>
     requires { Room text.now tree.old used 8 cur }
-    ensures { Tries body text.now tree.old used tree.new (λ n. stmts text.now n depth) (8 * left cur + 4) 0 0 cur result }
+    ensures { Tries body text.now tree.old used tree.new (λ n. stmts text.now n depth) (8 * left cur + 4) 0 0 cur (try_of result) }
 {
     let mut end = used + tree::HEADER;
     let mut count = 0;
     let mut c = cur;
     loop {
-        let r = parse_statement(text, tree, end, depth, c);
-        if let Answer::Nothing(g) = r {
-            return read_on(text, tree, end, depth, g);
-        }
-        let Answer::Node(e, d) = r else {
-            return r;
+        let (member, d) = parse_statement(text, tree, end, depth, c)?;
+        let Some(e) = member else {
+            let g = read_on(text, tree, end, depth, d)?;
+            return Ok((None, g));
         };
         end = e;
-        count = count + 1;
-        let s = see::see(text, d);
-        let Seen::At(f) = s else {
-            return Answer::Refused(see::why(s));
+        count += 1;
+        let f = see(text, d)?;
+        let Token::Semicolon = f.token else {
+            seal(tree, used, Kind::Body, 0, count, end);
+            return Ok((Some(end), f));
         };
-        if see::mark(f) != kinds::SEMICOLON {
-            seal(tree, used, tree::BODY, 0, count, end);
-            return Answer::Node(end, f);
-        }
         c = f.take();
     }
 }
 
-// {`;` statement} after a member that yields nothing: the list is read on, and the whole is nothing.
+// {`;` statement} after a member that yields nothing: the list is read on, and the whole is nothing. The cursor after it.
 #[cycle(parse_body_parse_else_part_parse_if_parse_statement_parse_statements_parse_while_read_on)]
-pub fn read_on(text: &[u8], tree: &mut [u32], used: usize, depth: usize, cur: Cursor) -> Answer
+pub fn read_on(
+    text: &[u8],
+    tree: &mut [u32],
+    used: usize,
+    depth: usize,
+    cur: Cursor,
+) -> Result<Cursor, Refusal>
     requires { Room text.now tree.old used 0 cur }
-    ensures { Quiets text.now tree.old used tree.new (λ n. quiet_rest text.now n depth) (8 * left cur + 1) cur result }
+    ensures { Quiets text.now tree.old used tree.new (λ n. quiet_rest text.now n depth) (8 * left cur + 1) cur (quiet_of result) }
 {
     let mut c = cur;
     loop {
-        let s = see::see(text, c);
-        let Seen::At(d) = s else {
-            return Answer::Refused(see::why(s));
+        let d = see(text, c)?;
+        let Token::Semicolon = d.token else {
+            return Ok(d);
         };
-        if see::mark(d) != kinds::SEMICOLON {
-            return Answer::Nothing(d);
-        }
-        let q = parse_statement(text, tree, used, depth, d.take());
-        let p = answer::passed(q);
-        let Seen::At(e) = p else {
-            return Answer::Refused(see::why(p));
-        };
+        let (_, e) = parse_statement(text, tree, used, depth, d.take())?;
         c = e;
     }
 }

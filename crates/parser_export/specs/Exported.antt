@@ -1,15 +1,14 @@
 -- What `loopgarret_parse` promises: the number of what the parser answers, with the parser's own promise on the lent room.
-use Rattle.std.specs.Prelude.{◌≡◌, List, ℕ}
+use Rattle.std.specs.Prelude.{◌≡◌, Ok, Err, List, ℕ}
 use Rattle.std.proofs.Common.{sym, ap, ◌∙◌}
 use Rattle.numbers.specs.Panel.{done}
-use Rattle.parser.specs.Entry.{Parses, parse_once}
-use Rattle.parser.specs.declared.Parsed.{Parsed}
-use Rattle.parser.specs.declared.Parsed.TheVariants.{Tree, Refused}
+use Rattle.numbers.specs.Refusals.{number_of as refusal_no}
+use Rattle.parser.specs.Entry.{Parsed, Parses, parse_once}
 
 -- the number of an answer: a tree is done
 abbrev pub number_of : Parsed → ℕ
-number_of (Tree end) = done
-number_of (Refused n) = n
+number_of (Ok end) = done
+number_of (Err w) = refusal_no w
 
 pub record Exports (src xs ys : List ℕ) (n : ℕ) : Type 0 where
   pub answer : Parsed

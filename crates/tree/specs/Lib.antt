@@ -6,4 +6,5 @@ pub mod Standing
 pub mod Reading
 pub mod Writing
 pub mod Heads
+pub mod Kinds
 pub mod Parts

@@ -1,16 +1,12 @@
 -- `parse` meets its contract.
+use mathlib.Core.Path.{refl}
 use native.Mathlib.Omega.{arith}
-use Rattle.parser.proofs.Entering.{parses_small, parses}
+use Rattle.numbers.proofs.Putting.{filled_part}
+use Rattle.parser.proofs.Entering.{parses}
 use Rattle.parser.proofs.parse.Goals as goal
 
-pub returns-then-tree-lt-TREE_PLACES : goal.returns-then-tree-lt-TREE_PLACES
-returns-then-tree-lt-TREE_PLACES c = parses_small _ c.if-tree-lt-TREE_PLACES.true
-
-pub read_tree-r-requires : goal.read_tree-r-requires
-read_tree-r-requires c = c.if-tree-lt-TREE_PLACES.false
-
-pub clear-requires : goal.clear-requires
-clear-requires c = (omega (arith, c.end_in.ensures, c.read_tree-r.ensures.within), omega (arith, c.read_tree-r.auto.tree, c.if-tree-lt-TREE_PLACES.false))
-
 pub returns : goal.returns
-returns c = parses _ c.if-tree-lt-TREE_PLACES.false c.read_tree-r.auto.tree c.read_tree-r.ensures (rw c.end_in.ensures at c.clear.ensures)
+returns c =
+    let a = c.read_tree-read.ensures in
+    parses _ c.if-tree-lt-TREE_PLACES.false c.read_tree-read.auto.tree a c.unwrap_or.ensures
+    (filled_part c.unwrap_or.result 98400 0 c.read_tree-read.new.tree (omega (arith, c.unwrap_or.ensures, a.within)) (omega (arith, c.read_tree-read.auto.tree, c.if-tree-lt-TREE_PLACES.false)) (c.fill.ensures.after (λ y e. e)) refl)

@@ -7,10 +7,19 @@ use Rattle.lexer.proofs.Cases.{bad_word, good_word}
 use Rattle.lexer.proofs.words.word.Goals as goal
 
 pub returns-then-byte_at-eq95 : goal.returns-then-byte_at-eq95
-returns-then-byte_at-eq95 c = bad_word _ _ _ c.past_word-e.ensures (sym c.byte_at.ensures ∙ c.if-byte_at-eq95.true)
+returns-then-byte_at-eq95 c = bad_word _ _ _ (c.past-e.ensures is_word_byte (λ b r h. h)) (sym c.byte_at.ensures ∙ c.if-byte_at-eq95.true)
 
 pub slice_bounds-w-end : goal.slice_bounds-w-end
-slice_bounds-w-end c = omega (arith, stop_length is_word_byte c.args.text.now c.args.i (omega arith), c.past_word-e.ensures)
+slice_bounds-w-end c = omega (arith, stop_length is_word_byte c.args.text.now c.args.i (omega arith), c.past-e.ensures is_word_byte (λ b r h. h))
+
+pub slice_bounds-w-count : goal.slice_bounds-w-count
+slice_bounds-w-count c = omega (arith, c.past-e.ensures is_word_byte (λ b r h. h))
+
+pub slice_bounds-w-start : goal.slice_bounds-w-start
+slice_bounds-w-start c = omega (arith, c.past-e.ensures is_word_byte (λ b r h. h))
+
+pub overflow_sub-e : goal.overflow_sub-e
+overflow_sub-e c = omega (arith, c.past-e.ensures is_word_byte (λ b r h. h))
 
 pub returns : goal.returns
-returns c = good_word _ _ _ c.past_word-e.ensures _ c.requires (λ e. c.if-byte_at-eq95.false (c.byte_at.ensures ∙ e)) c.keyword.ensures
+returns c = good_word _ _ _ (c.past-e.ensures is_word_byte (λ b r h. h)) _ c.requires (λ e. c.if-byte_at-eq95.false (c.byte_at.ensures ∙ e)) c.keyword.ensures

@@ -1,22 +1,21 @@
 -- `conditions::parse_odd` meets its contract.
-use mathlib.Core.Path.{refl}
+use mathlib.Core.Path.{ap}
 use native.Mathlib.Omega.{arith}
-use Rattle.parser.proofs.Answers.{grew, passed, room_at}
+use Rattle.std.proofs.lemmas.Result.{err_from_is_err_and}
+use Rattle.parser.specs.Answer.{node_of}
+use Rattle.parser.proofs.Answers.{refused, node_refused, grew}
 use Rattle.parser.proofs.Conds.{odds_refused, odds_done}
 use Rattle.parser.proofs.conditions.parse_odd.Goals as goal
 
-pub parse_exp-r-requires : goal.parse_exp-r-requires
-parse_exp-r-requires c =
-    room_at c.requires refl _ 8 (omega arith)
-
-pub returns-in_default : goal.returns-in_default
-returns-in_default c =
-    passed c.requires _ c.parse_exp-r.ensures c.in_default.not-Node (λ w z. odds_refused _ _ z)
+pub returns-in_err-end : goal.returns-in_err-end
+returns-in_err-end c =
+    let p = err_from_is_err_and c.from_residual.result c.from_residual.ensures.1 in
+    rw (p.1, p.2) (refused (odds_refused _ _ (node_refused c.parse_exp.ensures c.in_err-end.was)))
 
 pub seal-requires : goal.seal-requires
 seal-requires c =
-    let g = grew c.parse_exp-r.ensures c.in-Node.is in
-    let k = c.parse_exp-r.auto.tree in
+    let g = grew c.parse_exp.ensures (ap node_of c.in_ok-end.was) in
+    let k = c.parse_exp.auto.tree in
     record {
       i_bound = (g.above, omega (arith, g.room, c.requires.room));
       count_le_end = (omega (arith, g.above), omega (arith, c.requires.small));
@@ -24,4 +23,4 @@ seal-requires c =
 
 pub returns : goal.returns
 returns c =
-    odds_done _ _ _ c.parse_exp-r.ensures c.in-Node.is c.seal.ensures
+    odds_done _ _ _ c.parse_exp.ensures (ap node_of c.in_ok-end.was) c.seal.ensures

@@ -1,52 +1,39 @@
 -- `declarations::parse_const` meets its contract.
 use mathlib.Core.Path.{refl}
 use native.Mathlib.Omega.{arith}
-use Rattle.lexer.specs.Marks.{becomes_sign, place_of}
-use Rattle.parser.proofs.Answers.{refused, grew, room_after, passed, room_at, room_took, wanted_fewer}
+use Rattle.lexer.specs.Marks.{becomes_sign}
+use Rattle.parser.proofs.Answers.{refused, grew, room_after, room_took, wanted_fewer}
+use Rattle.parser.proofs.Exits.{left_as, refuses}
 use Rattle.parser.proofs.Declared.{const_refused, const_mark, const_number, const_done}
 use Rattle.parser.proofs.declarations.parse_const.Goals as goal
 
-pub overflow_add-used : goal.overflow_add-used
-overflow_add-used c = omega (arith, c.requires.room, c.requires.small)
+pub returns-in_err-named : goal.returns-in_err-named
+returns-in_err-named c = rw (left_as c.from_residual.ensures) (refused (const_refused (refuses c.in_err-named.ensures)))
 
-pub parse_id-r-requires : goal.parse_id-r-requires
-parse_id-r-requires c = room_at c.requires refl _ 0 (omega arith)
+pub returns-in_err-d : goal.returns-in_err-d
+returns-in_err-d c = rw (left_as c.from_residual-in_err-d.ensures) (refused (const_mark _ c.in_ok-named.ensures refl (c.in_err-d.ensures becomes_sign refl) refl))
 
-pub returns-in_default : goal.returns-in_default
-returns-in_default c = passed c.requires _ c.parse_id-r.ensures c.in_default.not-Node (λ w z. const_refused z)
+pub parse_integer-requires : goal.parse_integer-requires
+parse_integer-requires c =
+    let a = room_after c.in_ok-named.ensures refl {t = 0} c.requires c.parse_id.auto.tree (omega arith) in
+    room_took a (c.in_ok-d.ensures becomes_sign refl) refl _ 0 (omega arith)
 
-pub returns-in_default-s : goal.returns-in_default-s
-unfolding place_of
-returns-in_default-s c = refused (const_mark _ c.parse_id-r.ensures c.in-Node.is (c.want-s.ensures becomes_sign refl) c.in_default-s.is c.why.ensures)
-
-pub parse_integer-q-requires : goal.parse_integer-q-requires
-unfolding place_of
-parse_integer-q-requires c =
-    let a = room_after c.parse_id-r.ensures c.in-Node.is {t = 0} c.requires c.parse_id-r.auto.tree (omega arith) in
-    room_took a (c.want-s.ensures becomes_sign refl) c.in-At.is _ 0 (omega arith)
-
-pub returns-in_default-q : goal.returns-in_default-q
-unfolding place_of
-returns-in_default-q c =
-    let a = room_after c.parse_id-r.ensures c.in-Node.is {t = 0} c.requires c.parse_id-r.auto.tree (omega arith) in
-    passed (room_took a (c.want-s.ensures becomes_sign refl) c.in-At.is c.in-Node.named 0 (omega arith)) _ c.parse_integer-q.ensures c.in_default-q.not-Node
-    (λ w z. const_number _ c.parse_id-r.ensures c.in-Node.is (c.want-s.ensures becomes_sign refl) c.in-At.is z)
+pub returns-in_err-end : goal.returns-in_err-end
+returns-in_err-end c = rw (left_as c.from_residual-in_err-end.ensures) (refused (const_number _ c.in_ok-named.ensures refl (c.in_ok-d.ensures becomes_sign refl) refl (refuses c.in_err-end.ensures)))
 
 pub seal-requires : goal.seal-requires
-unfolding place_of
 seal-requires c =
-    let a = room_after c.parse_id-r.ensures c.in-Node.is {t = 0} c.requires c.parse_id-r.auto.tree (omega arith) in
-    let b = room_took a (c.want-s.ensures becomes_sign refl) c.in-At.is c.in-Node.named 0 (omega arith) in
-    let g = grew c.parse_id-r.ensures c.in-Node.is in
-    let j = grew c.parse_integer-q.ensures c.in-Node-q.is in
-    let k = c.parse_integer-q.auto.tree in
+    let a = room_after c.in_ok-named.ensures refl {t = 0} c.requires c.parse_id.auto.tree (omega arith) in
+    let b = room_took a (c.in_ok-d.ensures becomes_sign refl) refl c.in_ok-named.named 0 (omega arith) in
+    let g = grew c.in_ok-named.ensures refl in
+    let j = grew c.in_ok-end.ensures refl in
+    let k = c.parse_integer.auto.tree in
     record {
       i_bound = (omega (arith, g.above, j.above), omega (arith, j.room, b.room));
       count_le_end = (omega (arith, g.above, j.above), omega (arith, b.small));
     }
 
 pub returns : goal.returns
-unfolding place_of
 returns c =
-    let a = room_after c.parse_id-r.ensures c.in-Node.is {t = 0} c.requires c.parse_id-r.auto.tree (omega arith) in
-    const_done _ c.parse_id-r.ensures c.in-Node.is (c.want-s.ensures becomes_sign refl) c.in-At.is c.parse_integer-q.ensures c.in-Node-q.is (wanted_fewer a (c.want-s.ensures becomes_sign refl) c.in-At.is) c.seal.ensures
+    let a = room_after c.in_ok-named.ensures refl {t = 0} c.requires c.parse_id.auto.tree (omega arith) in
+    const_done _ c.in_ok-named.ensures refl (c.in_ok-d.ensures becomes_sign refl) refl c.in_ok-end.ensures refl (wanted_fewer a (c.in_ok-d.ensures becomes_sign refl) refl) c.seal.ensures

@@ -1,19 +1,20 @@
 -- `declarations::parse_decls` meets its contract.
 use mathlib.Core.Path.{refl}
 use native.Mathlib.Omega.{arith}
-use Rattle.parser.proofs.Answers.{room_after, passed, room_at}
+use Rattle.parser.proofs.Answers.{refused, room_after, room_at}
+use Rattle.parser.proofs.Exits.{left_as, refuses}
 use Rattle.parser.proofs.Sequences.{first_refused, second_done}
 use Rattle.parser.proofs.Declared.{decls_whole, decls_join}
 use Rattle.parser.proofs.declarations.parse_decls.Goals as goal
 
-pub parse_const_decl-r-requires : goal.parse_const_decl-r-requires
-parse_const_decl-r-requires c = room_at c.requires refl _ 4 (omega arith)
+pub parse_const_decl-requires : goal.parse_const_decl-requires
+parse_const_decl-requires c = room_at c.requires refl _ 4 (omega arith)
 
-pub returns-in_default : goal.returns-in_default
-returns-in_default c = passed c.requires _ c.parse_const_decl-r.ensures c.in_default.not-Node (λ w z. first_refused (decls_whole _) (omega arith) z)
+pub returns-in_err-end : goal.returns-in_err-end
+returns-in_err-end c = rw (left_as c.from_residual.ensures) (refused (first_refused (decls_whole _) (omega arith) (refuses c.in_err-end.ensures)))
 
 pub parse_var_decl-requires : goal.parse_var_decl-requires
-parse_var_decl-requires c = room_after c.parse_const_decl-r.ensures c.in-Node.is {t = 4} c.requires c.parse_const_decl-r.auto.tree (omega arith)
+parse_var_decl-requires c = room_after c.in_ok-end.ensures refl {t = 4} c.requires c.parse_const_decl.auto.tree (omega arith)
 
 pub returns : goal.returns
-returns c = second_done (decls_whole _) decls_join c.parse_const_decl-r.ensures c.in-Node.is c.requires.place c.requires.stands _ 0 8 c.parse_var_decl.ensures (omega arith) (omega arith) (omega arith)
+returns c = second_done (decls_whole _) decls_join c.in_ok-end.ensures refl c.requires.place c.requires.stands _ 0 8 c.parse_var_decl.ensures (omega arith) (omega arith) (omega arith)

@@ -1,15 +1,17 @@
 -- `expressions::product_op` meets its contract.
-use Rattle.parser.proofs.Operators.{op_first, op_second, op_none}
+use mathlib.Core.Path.{refl}
+use mathlib.Core.Logic.{inl, inr}
+use Rattle.parser.specs.See.{Joins}
 use Rattle.parser.proofs.expressions.product_op.Goals as goal
 
-pub returns-then-m-eq-TIMES : goal.returns-then-m-eq-TIMES
-returns-then-m-eq-TIMES c =
-    op_first _ _ _ _ _ c.if-m-eq-TIMES.true
+pub returns-in-Mul : goal.returns-in-Mul
+unfolding Joins
+returns-in-Mul c = inl (c.in-Mul.is, refl)
 
-pub returns-then-m-eq-DIVIDE : goal.returns-then-m-eq-DIVIDE
-returns-then-m-eq-DIVIDE c =
-    op_second _ _ _ _ _ c.if-m-eq-TIMES.false c.if-m-eq-DIVIDE.true
+pub returns-in-Div : goal.returns-in-Div
+unfolding Joins
+returns-in-Div c = inr ((λ z. cc), (c.in-Div.is, refl))
 
-pub returns : goal.returns
-returns c =
-    op_none _ _ _ _ _ c.if-m-eq-TIMES.false c.if-m-eq-DIVIDE.false
+pub returns-in_default : goal.returns-in_default
+unfolding Joins
+returns-in_default c = (c.in_default.not-Mul, c.in_default.not-Div)

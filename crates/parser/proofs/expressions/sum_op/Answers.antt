@@ -1,15 +1,17 @@
 -- `expressions::sum_op` meets its contract.
-use Rattle.parser.proofs.Operators.{op_first, op_second, op_none}
+use mathlib.Core.Path.{refl}
+use mathlib.Core.Logic.{inl, inr}
+use Rattle.parser.specs.See.{Joins}
 use Rattle.parser.proofs.expressions.sum_op.Goals as goal
 
-pub returns-then-m-eq-PLUS : goal.returns-then-m-eq-PLUS
-returns-then-m-eq-PLUS c =
-    op_first _ _ _ _ _ c.if-m-eq-PLUS.true
+pub returns-in-Add : goal.returns-in-Add
+unfolding Joins
+returns-in-Add c = inl (c.in-Add.is, refl)
 
-pub returns-then-m-eq-MINUS : goal.returns-then-m-eq-MINUS
-returns-then-m-eq-MINUS c =
-    op_second _ _ _ _ _ c.if-m-eq-PLUS.false c.if-m-eq-MINUS.true
+pub returns-in-Sub : goal.returns-in-Sub
+unfolding Joins
+returns-in-Sub c = inr ((λ z. cc), (c.in-Sub.is, refl))
 
-pub returns : goal.returns
-returns c =
-    op_none _ _ _ _ _ c.if-m-eq-PLUS.false c.if-m-eq-MINUS.false
+pub returns-in_default : goal.returns-in_default
+unfolding Joins
+returns-in_default c = (c.in_default.not-Add, c.in_default.not-Sub)

@@ -1,19 +1,23 @@
 -- `lists::parse_id` meets its contract.
 use native.Mathlib.Omega.{arith}
+use Rattle.std.proofs.lemmas.Result.{err_from_is_err_and}
 use Rattle.parser.proofs.Seeing.{saw}
 use Rattle.parser.proofs.Answers.{refused, one_fewer}
 use Rattle.parser.proofs.Required.{name_stop, name_other, name_there}
 use Rattle.parser.proofs.lists.parse_id.Goals as goal
 
-pub returns-in_default : goal.returns-in_default
-returns-in_default c = refused (name_stop c.see-s.ensures c.in_default.is c.why.ensures)
+pub returns-in_err-c : goal.returns-in_err-c
+returns-in_err-c c =
+    let p = err_from_is_err_and c.from_residual.result c.from_residual.ensures.1 in
+    rw (p.1, p.2) (refused (name_stop c.see.ensures c.in_err-c.was))
 
-pub returns-in_default-t : goal.returns-in_default-t
-returns-in_default-t c = refused (name_other c.see-s.ensures c.in-At.is c.in_default-t.not-Identifier)
+pub returns-in_default : goal.returns-in_default
+returns-in_default c =
+    refused (name_other c.see.ensures c.in_ok-c.was c.in_default.not-Identifier)
 
 pub push_name-requires : goal.push_name-requires
 push_name-requires c =
-    let w = (saw c.see-s.ensures c.in-At.is c.requires.place c.requires.stands).1 in
+    let w = (saw c.see.ensures c.in_ok-c.was c.requires.place c.requires.stands).1 in
     let i = w.inside _ _ c.in-Identifier.is in
     record {
       used_in_bounds = omega (arith, c.requires.room, w.fewer);
@@ -22,6 +26,6 @@ push_name-requires c =
 
 pub returns : goal.returns
 returns c =
-    let w = (saw c.see-s.ensures c.in-At.is c.requires.place c.requires.stands).1 in
+    let w = (saw c.see.ensures c.in_ok-c.was c.requires.place c.requires.stands).1 in
     let e = c.in-Identifier.is in
-    name_there c.see-s.ensures c.in-At.is c.take.ensures (one_fewer c.requires c.see-s.ensures c.in-At.is c.take.ensures) (omega (arith, c.requires.room)) c.push_name.ensures.0 _ _ e (w.inside _ _ e) c.push_name.ensures.1
+    name_there c.see.ensures c.in_ok-c.was c.take.ensures (one_fewer c.requires c.see.ensures c.in_ok-c.was c.take.ensures) (omega (arith, c.requires.room)) c.push_name.ensures.0 _ _ e (w.inside _ _ e) c.push_name.ensures.1

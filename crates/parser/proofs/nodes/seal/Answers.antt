@@ -18,4 +18,4 @@ bounds-tree-i-4 c =
 
 pub returns : goal.returns
 returns c =
-    seals _ _ _ _ _ _ c.requires.i_bound.0 c.requires.i_bound.1
+    rw c.number.ensures (seals _ _ _ _ _ _ c.requires.i_bound.0 c.requires.i_bound.1)

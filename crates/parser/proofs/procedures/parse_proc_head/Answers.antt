@@ -1,66 +1,57 @@
 -- `procedures::parse_proc_head` meets its contract.
-use mathlib.Core.Path.{refl, ◌∙◌}
+use mathlib.Core.Path.{refl}
 use native.Mathlib.Omega.{arith}
-use Rattle.lexer.specs.Marks.{procedure_word, open_sign, semicolon_sign, place_of}
-use Rattle.parser.proofs.Answers.{refused, grew, room_after, passed, room_took, wanted_fewer}
+use Rattle.lexer.specs.Marks.{procedure_word, open_sign, semicolon_sign}
+use Rattle.parser.proofs.Answers.{refused, grew, room_after, room_took, wanted_fewer}
+use Rattle.parser.proofs.Exits.{left_as, refuses}
 use Rattle.parser.proofs.Procs.{head_stop, head_name, head_open, head_args, head_end, head_done}
 use Rattle.parser.proofs.procedures.parse_proc_head.Goals as goal
 
-pub returns-in_default : goal.returns-in_default
-unfolding place_of
-returns-in_default c = refused (head_stop _ (c.want-s.ensures procedure_word refl) c.in_default.is c.why.ensures)
+pub returns-in_err-c : goal.returns-in_err-c
+returns-in_err-c c =
+    rw (left_as c.from_residual.ensures) (refused (head_stop _ (c.in_err-c.ensures procedure_word refl) refl))
 
-pub parse_id-r-requires : goal.parse_id-r-requires
-unfolding place_of
-parse_id-r-requires c = room_took c.requires (c.want-s.ensures procedure_word refl) c.in-At.is _ 0 (omega arith)
+pub parse_id-requires : goal.parse_id-requires
+parse_id-requires c =
+    room_took c.requires (c.in_ok-c.ensures procedure_word refl) refl _ 0 (omega arith)
 
-pub returns-in_default-r : goal.returns-in_default-r
-unfolding place_of
-returns-in_default-r c =
-    let a = room_took c.requires (c.want-s.ensures procedure_word refl) c.in-At.is c.args.used 12 (omega arith) in
-    passed a _ c.parse_id-r.ensures c.in_default-r.not-Node (λ w z. head_name _ (c.want-s.ensures procedure_word refl) c.in-At.is z)
+pub returns-in_err-named : goal.returns-in_err-named
+returns-in_err-named c =
+    rw (left_as c.from_residual-in_err-named.ensures) (refused (head_name _ (c.in_ok-c.ensures procedure_word refl) refl (refuses c.in_err-named.ensures)))
 
-pub returns-in_default-z : goal.returns-in_default-z
-unfolding place_of
-returns-in_default-z c = refused (head_open _ (c.want-s.ensures procedure_word refl) c.in-At.is c.parse_id-r.ensures c.in-Node.is (c.want-z.ensures open_sign refl) c.in_default-z.is c.why-in_default-z.ensures)
+pub returns-in_err-e : goal.returns-in_err-e
+returns-in_err-e c =
+    rw (left_as c.from_residual-in_err-e.ensures) (refused (head_open _ (c.in_ok-c.ensures procedure_word refl) refl c.in_ok-named.ensures refl (c.in_err-e.ensures open_sign refl) refl))
 
-pub parse_args-q-requires : goal.parse_args-q-requires
-unfolding place_of
-parse_args-q-requires c =
-    let a = room_took c.requires (c.want-s.ensures procedure_word refl) c.in-At.is c.args.used 12 (omega arith) in
-    let b = room_after c.parse_id-r.ensures c.in-Node.is {t = 12} a c.parse_id-r.auto.tree (omega arith) in
-    room_took b (c.want-z.ensures open_sign refl) c.in-At-z.is _ 4 (omega arith)
+pub parse_args-requires : goal.parse_args-requires
+parse_args-requires c =
+    let a = room_took c.requires (c.in_ok-c.ensures procedure_word refl) refl c.args.used 12 (omega arith) in
+    let b = room_after c.in_ok-named.ensures refl {t = 12} a c.parse_id.auto.tree (omega arith) in
+    room_took b (c.in_ok-e.ensures open_sign refl) refl _ 4 (omega arith)
 
-pub returns-in_default-q : goal.returns-in_default-q
-unfolding place_of
-returns-in_default-q c =
-    let a = room_took c.requires (c.want-s.ensures procedure_word refl) c.in-At.is c.args.used 12 (omega arith) in
-    let b = room_after c.parse_id-r.ensures c.in-Node.is {t = 12} a c.parse_id-r.auto.tree (omega arith) in
-    let d = room_took b (c.want-z.ensures open_sign refl) c.in-At-z.is c.in-Node.named 12 (omega arith) in
-    let f = wanted_fewer c.requires (c.want-s.ensures procedure_word refl) c.in-At.is in
-    let g = wanted_fewer b (c.want-z.ensures open_sign refl) c.in-At-z.is in
-    passed d _ c.parse_args-q.ensures c.in_default-q.not-Node
-    (λ w z. head_args _ (c.want-s.ensures procedure_word refl) c.in-At.is c.parse_id-r.ensures c.in-Node.is (c.want-z.ensures open_sign refl) c.in-At-z.is (omega (arith, (grew c.parse_id-r.ensures c.in-Node.is).fewer)) z)
+pub returns-in_err-end : goal.returns-in_err-end
+returns-in_err-end c =
+    let a = room_took c.requires (c.in_ok-c.ensures procedure_word refl) refl c.args.used 12 (omega arith) in
+    let b = room_after c.in_ok-named.ensures refl {t = 12} a c.parse_id.auto.tree (omega arith) in
+    let f = wanted_fewer c.requires (c.in_ok-c.ensures procedure_word refl) refl in
+    let g = wanted_fewer b (c.in_ok-e.ensures open_sign refl) refl in
+    rw (left_as c.from_residual-in_err-end.ensures) (refused (head_args _ (c.in_ok-c.ensures procedure_word refl) refl c.in_ok-named.ensures refl (c.in_ok-e.ensures open_sign refl) refl (omega (arith, (grew c.in_ok-named.ensures refl).fewer)) (refuses c.in_err-end.ensures)))
 
-pub returns-in_default-y : goal.returns-in_default-y
-unfolding place_of
-returns-in_default-y c =
-    let a = room_took c.requires (c.want-s.ensures procedure_word refl) c.in-At.is c.args.used 12 (omega arith) in
-    let b = room_after c.parse_id-r.ensures c.in-Node.is {t = 12} a c.parse_id-r.auto.tree (omega arith) in
-    let f = wanted_fewer c.requires (c.want-s.ensures procedure_word refl) c.in-At.is in
-    let g = wanted_fewer b (c.want-z.ensures open_sign refl) c.in-At-z.is in
-    refused (head_end _ (c.want-s.ensures procedure_word refl) c.in-At.is c.parse_id-r.ensures c.in-Node.is (c.want-z.ensures open_sign refl) c.in-At-z.is (omega (arith, (grew c.parse_id-r.ensures c.in-Node.is).fewer)) c.parse_args-q.ensures c.in-Node-q.is (c.want-y.ensures semicolon_sign refl) c.in_default-y.is c.why-in_default-y.ensures)
-
-pub shape_of-tree : goal.shape_of-tree
-shape_of-tree c = c.parse_args-q.auto.tree ∙ c.parse_id-r.auto.tree
+pub returns-in_err-g : goal.returns-in_err-g
+returns-in_err-g c =
+    let a = room_took c.requires (c.in_ok-c.ensures procedure_word refl) refl c.args.used 12 (omega arith) in
+    let b = room_after c.in_ok-named.ensures refl {t = 12} a c.parse_id.auto.tree (omega arith) in
+    let f = wanted_fewer c.requires (c.in_ok-c.ensures procedure_word refl) refl in
+    let g = wanted_fewer b (c.in_ok-e.ensures open_sign refl) refl in
+    rw (left_as c.from_residual-in_err-g.ensures) (refused (head_end _ (c.in_ok-c.ensures procedure_word refl) refl c.in_ok-named.ensures refl (c.in_ok-e.ensures open_sign refl) refl (omega (arith, (grew c.in_ok-named.ensures refl).fewer)) c.in_ok-end.ensures refl (c.in_err-g.ensures semicolon_sign refl) refl))
 
 pub returns : goal.returns
-unfolding place_of
 returns c =
-    let a = room_took c.requires (c.want-s.ensures procedure_word refl) c.in-At.is c.args.used 12 (omega arith) in
-    let b = room_after c.parse_id-r.ensures c.in-Node.is {t = 12} a c.parse_id-r.auto.tree (omega arith) in
-    let d = room_took b (c.want-z.ensures open_sign refl) c.in-At-z.is c.in-Node.named 12 (omega arith) in
-    let e = room_after c.parse_args-q.ensures c.in-Node-q.is {t = 0} d c.parse_args-q.auto.tree (omega arith) in
-    let f = wanted_fewer c.requires (c.want-s.ensures procedure_word refl) c.in-At.is in
-    let g = wanted_fewer b (c.want-z.ensures open_sign refl) c.in-At-z.is in
-    head_done _ (c.want-s.ensures procedure_word refl) c.in-At.is c.parse_id-r.ensures c.in-Node.is (c.want-z.ensures open_sign refl) c.in-At-z.is (omega (arith, (grew c.parse_id-r.ensures c.in-Node.is).fewer)) c.parse_args-q.ensures c.in-Node-q.is (c.want-y.ensures semicolon_sign refl) c.in-At-y.is f g (wanted_fewer e (c.want-y.ensures semicolon_sign refl) c.in-At-y.is)
+    let a = room_took c.requires (c.in_ok-c.ensures procedure_word refl) refl c.args.used 12 (omega arith) in
+    let b = room_after c.in_ok-named.ensures refl {t = 12} a c.parse_id.auto.tree (omega arith) in
+    let f = wanted_fewer c.requires (c.in_ok-c.ensures procedure_word refl) refl in
+    let g = wanted_fewer b (c.in_ok-e.ensures open_sign refl) refl in
+    let d = room_took b (c.in_ok-e.ensures open_sign refl) refl c.in_ok-named.named 12 (omega arith) in
+    let e = room_after c.in_ok-end.ensures refl {t = 0} d c.parse_args.auto.tree (omega arith) in
+    let s = c.in_ok-g.ensures semicolon_sign refl in
+    head_done _ (c.in_ok-c.ensures procedure_word refl) refl c.in_ok-named.ensures refl (c.in_ok-e.ensures open_sign refl) refl (omega (arith, (grew c.in_ok-named.ensures refl).fewer)) c.in_ok-end.ensures refl s refl f g (wanted_fewer e s refl)

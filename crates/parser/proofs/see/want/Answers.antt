@@ -1,18 +1,23 @@
 -- `see::want` meets its contract.
-use mathlib.Core.Path.{sym, ◌∙◌}
+use mathlib.Core.Path.{sym, ap, ◌∙◌}
+use borrow.Author.Tests.{eqb-true, eqb-false}
+use Rattle.std.proofs.lemmas.Result.{err_from_is_err_and}
+use Rattle.lexer.specs.Kinds.{kind_of}
+use Rattle.parser.proofs.Tokens.{of_kind, kind_of_token}
 use Rattle.parser.proofs.Seeing.{want_refused, want_took, want_other}
 use Rattle.parser.proofs.see.want.Goals as goal
 
-pub returns-in_default : goal.returns-in_default
-returns-in_default c k q =
-    want_refused c.see-s.ensures k c.in_default.is
+pub returns-in_err-c : goal.returns-in_err-c
+returns-in_err-c c k q =
+    let p = err_from_is_err_and c.from_residual.result c.from_residual.ensures.1 in
+    rw (p.1, p.2) (want_refused c.see.ensures k c.in_err-c.was)
 
-pub returns-then-mark-m : goal.returns-then-mark-m
-returns-then-mark-m c k q =
-    let e = c in
-    want_took e.see-s.ensures k e.in-At.is (sym e.mark.ensures ∙ c.if-mark-m.true ∙ q) c.take.ensures
+pub returns-then-is : goal.returns-then-is
+returns-then-is c k q =
+    let e = eqb-true _ _ (sym c.is.ensures ∙ c.if-is.true) in
+    want_took c.see.ensures k c.in_ok-c.was (of_kind _ k (e ∙ ap kind_of q ∙ kind_of_token k)) c.take.ensures
 
-pub returns-else-mark-m : goal.returns-else-mark-m
-returns-else-mark-m c k q =
-    let e = c in
-    want_other e.see-s.ensures k e.in-At.is (λ z. c.if-mark-m.false (e.mark.ensures ∙ z ∙ sym q))
+pub returns-else-is : goal.returns-else-is
+returns-else-is c k q =
+    let e = eqb-false _ _ (sym c.is.ensures ∙ c.if-is.false) in
+    want_other c.see.ensures k c.in_ok-c.was (λ z. e (ap kind_of (z ∙ sym q)))

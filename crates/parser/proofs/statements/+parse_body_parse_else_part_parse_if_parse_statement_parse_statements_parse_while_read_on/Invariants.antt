@@ -25,11 +25,11 @@ decreases-parse_while l = 8 * left l.cur + 5
 abbrev pub decreases-read_on : goal.decreases-read_on
 decreases-read_on l = 8 * left l.cur + 5
 
-abbrev pub invariant-parse_statements-loop-g : goal.invariant-parse_statements-loop-g
-invariant-parse_statements-loop-g l = M.Going l.text l.depth l.initial.tree l.initial.end l.initial.c l.tree l.end l.count l.c
+abbrev pub invariant-parse_statements-loop-member : goal.invariant-parse_statements-loop-member
+invariant-parse_statements-loop-member l = M.Going l.text l.depth l.initial.tree l.initial.end l.initial.c l.tree l.end l.count l.c
 
-abbrev pub decreases-parse_statements-loop-g : goal.decreases-parse_statements-loop-g
-decreases-parse_statements-loop-g l = left l.c
+abbrev pub decreases-parse_statements-loop-member : goal.decreases-parse_statements-loop-member
+decreases-parse_statements-loop-member l = left l.c
 
 abbrev pub invariant-read_on-loop-d : goal.invariant-read_on-loop-d
 invariant-read_on-loop-d l = M.Reading l.text l.depth l.initial.tree l.used l.initial.c l.tree l.c
