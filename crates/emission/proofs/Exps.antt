@@ -1,50 +1,35 @@
 -- Laws of expressions and conditions, by the node that stands for them.
-use mathlib.Core.Path.{◌≡◌, refl, sym, ap, ◌∙◌}
+use mathlib.Core.Path.{◌≡◌, refl, subst}
 use mathlib.Core.List.{List, []}
 use Prim.Native.Nat.{ℕ, ◌+◌, ◌≤◌}
 use native.Mathlib.Omega.{arith}
 use lib.IntN.{pos}
 use lib.ListN.{length, get_or}
+use Rattle.std.specs.Prelude.{Result, Ok, Err}
+use Rattle.numbers.specs.declared.refusal.Refusal.{Refusal}
 use Rattle.numbers.specs.Limits.{max_code}
-use Rattle.numbers.specs.Arithmetic.{Arith, add, sub, mul, div, Compare, equal, unequal, less, at_least, greater, at_most}
+use Rattle.numbers.specs.Arithmetic.{Arith, Compare}
 use Rattle.tree.specs.Tree.{Exp, chain, Chain, end, link, Cond, rel}
 use Rattle.tree.specs.Layout.{neg_kind, chain_kind, brackets_kind, odd_kind, comparison_kind, member, name_no, number_no, node_no, count}
 use Rattle.tree.specs.Nodes.{exp_node, chain_nodes, arith_no, compare_no}
 use Rattle.tree.specs.Named.{NamedExp, NamedChain}
 use Rattle.tree.specs.Reading.{word_at, literal_at, branch_at, first_at, After}
 use Rattle.tree.specs.Heads.{name_head, number_head, node_head, ExpIs, is_lit, is_ref, is_neg, is_chain, is_brackets, exp_head_lem, CondIs, is_oddness, is_rel, cond_is, cond_head_lem}
-use Rattle.tree.specs.Standing.{ExpAt, CondAt, HasCond}
+use Rattle.tree.specs.Standing.{ExpAt, CondAt}
 use Rattle.tree.specs.Parts.{exp_by, at_neg, at_brackets, at_first, at_odd, is_rel_lem, at_left, at_right}
-use Rattle.pcode.specs.Operators.{Oper, oper_no, arithmetic, comparison, negate, odd}
+use Rattle.pcode.specs.Operators.{Oper, arithmetic, comparison, negate, odd}
 use Rattle.pcode.specs.Code.{LIT}
 use Rattle.symbols.specs.Symbols.{find}
 use Rattle.symbols.specs.Table.{part}
 use Rattle.symbols.specs.ByNumbers.{name_is}
-use Rattle.emission.specs.declared.Made.{Made}
-use Rattle.emission.specs.declared.Made.TheVariants.{At}
 use Rattle.emission.specs.Pieces.{made, ◌⨾◌, nothing, emit, emit_oper}
 use Rattle.emission.specs.Statements.{Env, used, exp_code, chain_code, cond_code}
 use Rattle.emission.specs.Draft.{whole, Emits}
-use Rattle.emission.specs.Drafting.{so_start, stop, then, Stops, seq_assoc}
+use Rattle.emission.specs.Drafting.{so_start, stop, then, seq_assoc}
 use Rattle.emission.proofs.Lists.{Uncons, Family, Loop}
 
--- the numbers of operators in OPR, by the ops of nodes
-pub arith_no_lem : (a : Arith) → oper_no (arithmetic a) ≡ 1 + arith_no a
-arith_no_lem add = refl
-arith_no_lem sub = refl
-arith_no_lem mul = refl
-arith_no_lem div = refl
-
-pub compare_no_lem : (o : Compare) → oper_no (comparison o) ≡ 7 + compare_no o
-compare_no_lem equal = refl
-compare_no_lem unequal = refl
-compare_no_lem less = refl
-compare_no_lem at_least = refl
-compare_no_lem greater = refl
-compare_no_lem at_most = refl
-
 -- what each becomes
-module _ {s tr : List ℕ} {i : ℕ} (ρ : Env) {n : ℕ} {ys zs : List ℕ} {r : Made} where
+module _ {s tr : List ℕ} {i : ℕ} (ρ : Env) {n : ℕ} {ys zs : List ℕ} {r : Result ℕ Refusal} where
   as_ref : {t : Exp} → Emits (used ρ (find ρ.rows (part s (get_or tr (i + 2) 0) (get_or tr (i + 3) 0)) ρ.scope) n) n ys zs r → ExpIs name_head t → ExpAt s tr i t → Emits (exp_code ρ t n) n ys zs r
   unfolding exp_node NamedExp exp_code
   as_ref h (is_ref m) a =
@@ -68,8 +53,8 @@ module _ {s tr : List ℕ} {i : ℕ} (ρ : Env) {n : ℕ} {ys zs : List ℕ} {r 
   unfolding exp_code
   as_neg h (is_neg e) a = h e (at_neg e a)
 
-  pub exp_neg : get_or tr i 0 ≡ node_no neg_kind → ((o : Oper) (u : Exp) → oper_no o ≡ 1 → ExpAt s tr (i + 4) u → Emits ((exp_code ρ u ⨾ emit_oper o) n) n ys zs r) → (t : Exp) → ExpAt s tr i t → Emits (exp_code ρ t n) n ys zs r
-  exp_neg k h t a = as_neg (λ u. h negate u refl) (exp_by (node_head neg_kind) k a) a
+  pub exp_neg : get_or tr i 0 ≡ node_no neg_kind → ((u : Exp) → ExpAt s tr (i + 4) u → Emits ((exp_code ρ u ⨾ emit_oper negate) n) n ys zs r) → (t : Exp) → ExpAt s tr i t → Emits (exp_code ρ t n) n ys zs r
+  exp_neg k h t a = as_neg h (exp_by (node_head neg_kind) k a) a
 
   pub exp_brackets : ((t : Exp) → ExpAt s tr i t → ExpIs (node_head brackets_kind) t) → ((u : Exp) → ExpAt s tr (i + 4) u → Emits (exp_code ρ u n) n ys zs r) → (t : Exp) → ExpAt s tr i t → Emits (exp_code ρ t n) n ys zs r
   unfolding exp_code
@@ -81,15 +66,6 @@ module _ {s tr : List ℕ} {i : ℕ} (ρ : Env) {n : ℕ} {ys zs : List ℕ} {r 
 -- an operand of a chain after the first, with its operator
 abbrev pub LinkAt : List ℕ → List ℕ → ℕ → Arith × Exp → Type 0
 LinkAt s tr j p = (get_or tr (j + 1) 0 ≡ arith_no p.0) × ExpAt s tr j p.1
-
-pub link_small : {s tr : List ℕ} (j : ℕ) (p : Arith × Exp) → LinkAt s tr j p → get_or tr (j + 1) 0 ≤ 4
-link_small j p a = omega (arith, a.0, small p.0)
-  where
-    small : (x : Arith) → arith_no x ≤ 4
-    small add = omega arith
-    small sub = omega arith
-    small mul = omega arith
-    small div = omega arith
 
 pub links_empty : (ρ : Env) (c : Chain) → count (chain_nodes c) ≡ 0 → (n : ℕ) → chain_code ρ c n ≡ made []
 unfolding exp_node count exp_code nothing
@@ -137,65 +113,50 @@ module _ (s tr : List ℕ) (ρ : Env) where
         beyond = omega (arith, v.least);
       }
 
-  module _ {i n : ℕ} {ys zs : List ℕ} {r : Made} (k : get_or tr i 0 ≡ node_no chain_kind) (h : (u : Exp) → ExpAt s tr (i + 4) u → Emits (exp_code ρ u n) n ys zs r) where
-    pub chain_stop : (zs' : List ℕ) → Stops r → (t : Exp) → ExpAt s tr i t → Emits (exp_code ρ t n) n ys zs' r
+  module _ {i n : ℕ} {ys zs : List ℕ} (k : get_or tr i 0 ≡ node_no chain_kind) where
+    pub chain_stop : (zs' : List ℕ) {e : Refusal} → ((u : Exp) → ExpAt s tr (i + 4) u → Emits (exp_code ρ u n) n ys zs (Err e)) → (t : Exp) → ExpAt s tr i t → Emits (exp_code ρ t n) n ys zs' (Err e)
     unfolding exp_code
-    chain_stop zs' f t a = of (exp_by (node_head chain_kind) k a) a
+    chain_stop zs' {e} h t a = of (exp_by (node_head chain_kind) k a) a
       where
-        of : {u : Exp} → ExpIs (node_head chain_kind) u → ExpAt s tr i u → Emits (exp_code ρ u n) n ys zs' r
-        of (is_chain x c) y = stop (exp_code ρ x) (chain_code ρ c) f (h x (at_first x c y))
+        of : {u : Exp} → ExpIs (node_head chain_kind) u → ExpAt s tr i u → Emits (exp_code ρ u n) n ys zs' (Err e)
+        of (is_chain x c) y = stop (exp_code ρ x) (chain_code ρ c) (h x (at_first x c y))
 
-    pub chain_end : {m : ℕ} {ws : List ℕ} {q : Made} → n ≤ max_code → r ≡ At m → ((w : Exp × Chain) → ExpAt s tr i (chain w.0 w.1) → Emits (chain_code ρ w.1 m) m zs ws q)
+    pub chain_end : {m : ℕ} {ws : List ℕ} {q : Result ℕ Refusal} → ((u : Exp) → ExpAt s tr (i + 4) u → Emits (exp_code ρ u n) n ys zs (Ok m)) → n ≤ max_code → ((w : Exp × Chain) → ExpAt s tr i (chain w.0 w.1) → Emits (chain_code ρ w.1 m) m zs ws q)
         → (t : Exp) → ExpAt s tr i t → Emits (exp_code ρ t n) n ys ws q
     unfolding exp_code
-    chain_end {m} {ws} {q} b e l t a = of (exp_by (node_head chain_kind) k a) a
+    chain_end {m} {ws} {q} h b l t a = of (exp_by (node_head chain_kind) k a) a
       where
         of : {u : Exp} → ExpIs (node_head chain_kind) u → ExpAt s tr i u → Emits (exp_code ρ u n) n ys ws q
-        of (is_chain x c) y = then (exp_code ρ x) (chain_code ρ c) b e (h x (at_first x c y)) (l (x, c) y)
+        of (is_chain x c) y = then (exp_code ρ x) (chain_code ρ c) b (h x (at_first x c y)) (l (x, c) y)
 
-  -- an operator's number, as the loop has it
-  pub link_ens : {j m : ℕ} {ys zs : List ℕ} {r : Made} → ((o : Oper) (t : Exp) → oper_no o ≡ 1 + get_or tr (j + 1) 0 → ExpAt s tr j t → Emits ((exp_code ρ t ⨾ emit_oper o) m) m ys zs r)
+  -- an operand with its operator, as the loop has it
+  pub link_ens : {j m : ℕ} {ys zs : List ℕ} {r : Result ℕ Refusal} {v : Oper} → ((a : Arith) → get_or tr (j + 1) 0 ≡ arith_no a → v ≡ arithmetic a) → ((t : Exp) → ExpAt s tr j t → Emits ((exp_code ρ t ⨾ emit_oper v) m) m ys zs r)
       → (p : Arith × Exp) → LinkAt s tr j p → Emits ((exp_code ρ p.1 ⨾ emit_oper (arithmetic p.0)) m) m ys zs r
-  link_ens h p a = h (arithmetic p.0) p.1 (arith_no_lem p.0 ∙ ap (λ (x : ℕ). 1 + x) (sym a.0)) a.1
+  link_ens {j} {m} {ys} {zs} {r} e h p a = subst (λ (x : Oper). Emits ((exp_code ρ p.1 ⨾ emit_oper x) m) m ys zs r) (e p.0 a.0) (h p.1 a.1)
 
 -- conditions
-module _ {s tr : List ℕ} {i : ℕ} where
-  pub rel_small : (get_or tr i 0 ≡ node_no odd_kind → ⊥) → HasCond s tr i → get_or tr (i + 1) 0 ≤ 6
-  rel_small k h = of (is_rel_lem k h.cond h.at) h.at
-    where
-      small : (o : Compare) → compare_no o ≤ 6
-      small equal = omega arith
-      small unequal = omega arith
-      small less = omega arith
-      small at_least = omega arith
-      small greater = omega arith
-      small at_most = omega arith
-
-      of : {t : Cond} → CondIs (node_head comparison_kind) t → CondAt s tr i t → get_or tr (i + 1) 0 ≤ 6
-      of (is_rel o x y) a = omega (arith, (cond_head_lem tr i (rel o x y) a.stands).op, small o)
-
-module _ {s tr : List ℕ} {i : ℕ} (ρ : Env) {n : ℕ} {ys zs : List ℕ} {r : Made} where
-  pub cond_odd : get_or tr i 0 ≡ node_no odd_kind → ((o : Oper) (u : Exp) → oper_no o ≡ 6 → ExpAt s tr (i + 4) u → Emits ((exp_code ρ u ⨾ emit_oper o) n) n ys zs r) → (t : Cond) → CondAt s tr i t → Emits (cond_code ρ t n) n ys zs r
+module _ {s tr : List ℕ} {i : ℕ} (ρ : Env) {n : ℕ} {ys zs : List ℕ} where
+  pub cond_odd : {r : Result ℕ Refusal} → get_or tr i 0 ≡ node_no odd_kind → ((u : Exp) → ExpAt s tr (i + 4) u → Emits ((exp_code ρ u ⨾ emit_oper odd) n) n ys zs r) → (t : Cond) → CondAt s tr i t → Emits (cond_code ρ t n) n ys zs r
   unfolding cond_code
-  cond_odd k h t a = of (cond_is (node_head odd_kind) tr i t k a.stands) a
+  cond_odd {r} k h t a = of (cond_is (node_head odd_kind) tr i t k a.stands) a
     where
       of : {u : Cond} → CondIs (node_head odd_kind) u → CondAt s tr i u → Emits (cond_code ρ u n) n ys zs r
-      of (is_oddness e) x = h odd e refl (at_odd e x)
+      of (is_oddness e) x = h e (at_odd e x)
 
-  module _ (k : get_or tr i 0 ≡ node_no odd_kind → ⊥) (h : (u : Exp) → ExpAt s tr (i + 4) u → Emits (exp_code ρ u n) n ys zs r) where
-    pub cond_stop : (zs' : List ℕ) → Stops r → (t : Cond) → CondAt s tr i t → Emits (cond_code ρ t n) n ys zs' r
+  module _ (k : get_or tr i 0 ≡ node_no odd_kind → ⊥) where
+    pub cond_stop : (zs' : List ℕ) {e : Refusal} → ((u : Exp) → ExpAt s tr (i + 4) u → Emits (exp_code ρ u n) n ys zs (Err e)) → (t : Cond) → CondAt s tr i t → Emits (cond_code ρ t n) n ys zs' (Err e)
     unfolding cond_code
-    cond_stop zs' f t a = of (is_rel_lem k t a) a
+    cond_stop zs' {e} h t a = of (is_rel_lem k t a) a
       where
-        of : {u : Cond} → CondIs (node_head comparison_kind) u → CondAt s tr i u → Emits (cond_code ρ u n) n ys zs' r
-        of (is_rel o x y) v = stop (exp_code ρ x) (exp_code ρ y ⨾ emit_oper (comparison o)) f (h x (at_left o x y v))
+        of : {u : Cond} → CondIs (node_head comparison_kind) u → CondAt s tr i u → Emits (cond_code ρ u n) n ys zs' (Err e)
+        of (is_rel o x y) v = stop (exp_code ρ x) (exp_code ρ y ⨾ emit_oper (comparison o)) (h x (at_left o x y v))
 
-    pub cond_rel : {j m : ℕ} {ws : List ℕ} {q : Made} → n ≤ max_code → After tr (i + 4) j → r ≡ At m
-        → ((o : Oper) (u : Exp) → oper_no o ≡ 7 + get_or tr (i + 1) 0 → ExpAt s tr j u → Emits ((exp_code ρ u ⨾ emit_oper o) m) m zs ws q) → (t : Cond) → CondAt s tr i t → Emits (cond_code ρ t n) n ys ws q
+    pub cond_rel : {j m : ℕ} {ws : List ℕ} {q : Result ℕ Refusal} {v : Oper} → ((u : Exp) → ExpAt s tr (i + 4) u → Emits (exp_code ρ u n) n ys zs (Ok m)) → n ≤ max_code → After tr (i + 4) j
+        → ((o : Compare) → get_or tr (i + 1) 0 ≡ compare_no o → v ≡ comparison o) → ((u : Exp) → ExpAt s tr j u → Emits ((exp_code ρ u ⨾ emit_oper v) m) m zs ws q) → (t : Cond) → CondAt s tr i t → Emits (cond_code ρ t n) n ys ws q
     unfolding cond_code
-    cond_rel {j} {m} {ws} {q} b f e g t a = of (is_rel_lem k t a) a
+    cond_rel {j} {m} {ws} {q} {v} h b f e g t a = of (is_rel_lem k t a) a
       where
         of : {u : Cond} → CondIs (node_head comparison_kind) u → CondAt s tr i u → Emits (cond_code ρ u n) n ys ws q
-        of (is_rel o x y) v =
-            then (exp_code ρ x) (exp_code ρ y ⨾ emit_oper (comparison o)) b e (h x (at_left o x y v))
-            (g (comparison o) y (compare_no_lem o ∙ ap (λ (z : ℕ). 7 + z) (sym (cond_head_lem tr i (rel o x y) v.stands).op)) (at_right o x y f v))
+        of (is_rel o x y) w =
+            then (exp_code ρ x) (exp_code ρ y ⨾ emit_oper (comparison o)) b (h x (at_left o x y w))
+            (subst (λ (z : Oper). Emits ((exp_code ρ y ⨾ emit_oper z) m) m zs ws q) (e o (cond_head_lem tr i (rel o x y) w.stands).op) (g y (at_right o x y f w)))

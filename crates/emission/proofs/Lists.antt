@@ -4,14 +4,14 @@ use mathlib.Core.List.{List, []}
 use Prim.Native.Nat.{ℕ, suc, ◌+◌, ◌≤◌, ◌<◌}
 use native.Mathlib.Omega.{arith}
 use lib.ListN.{length}
+use Rattle.std.specs.Prelude.{Result, Ok, Err}
 use Rattle.numbers.specs.Limits.{max_code}
+use Rattle.numbers.specs.declared.refusal.Refusal.{Refusal}
 use Rattle.tree.specs.Layout.{Node, Nodes, member, count, enc, encs, Stands}
 use Rattle.tree.specs.Reading.{Two, two_at, After}
-use Rattle.emission.specs.declared.Made.{Made}
-use Rattle.emission.specs.declared.Made.TheVariants.{At}
 use Rattle.emission.specs.Pieces.{Piece, made, ◌⨾◌}
 use Rattle.emission.specs.Draft.{Emits}
-use Rattle.emission.specs.Drafting.{Sofar, so_same, so_then, so_stop, so_last, so_done, Stops}
+use Rattle.emission.specs.Drafting.{Sofar, so_same, so_then, so_stop, so_last, so_done}
 
 -- a list that is not empty: its head and its tail
 pub record Uncons {L A : Type 0} (nodes : L → Nodes) (node : A → Node) (gen : L → Piece) (gen_a : A → Piece) (In : L → Type 0) (InA : A → Type 0) (l : L) : Type 0 where
@@ -69,11 +69,11 @@ member_count t ts = refl
 
 module _ (F : Family) (N i n₀ : ℕ) (ys₀ : List ℕ) (k j m : ℕ) (ys : List ℕ) (inv : Loop F N i n₀ ys₀ k j m ys) where
   -- where no member is left, the last piece is what an empty list becomes
-  pub loop_last : (g : Piece) {zs : List ℕ} {r : Made} → ((l : F.L) → count (F.nodes l) ≡ 0 → (n : ℕ) → F.gen l n ≡ g n) → N ≤ k → Emits (g m) m ys zs r → (w : F.W) → F.Is w → Emits (F.whole w n₀) n₀ ys₀ zs r
+  pub loop_last : (g : Piece) {zs : List ℕ} {r : Result ℕ Refusal} → ((l : F.L) → count (F.nodes l) ≡ 0 → (n : ℕ) → F.gen l n ≡ g n) → N ≤ k → Emits (g m) m ys zs r → (w : F.W) → F.Is w → Emits (F.whole w n₀) n₀ ys₀ zs r
   loop_last g f h v w s = let a = inv w s in so_last {g = g} (so_same {h = g} (f a.rest (omega (arith, a.counted)) m) a.so) v
 
   -- where no member is left, nothing is
-  pub loop_done : ((l : F.L) → count (F.nodes l) ≡ 0 → (n : ℕ) → F.gen l n ≡ made []) → N ≤ k → (w : F.W) → F.Is w → Emits (F.whole w n₀) n₀ ys₀ ys (At m)
+  pub loop_done : ((l : F.L) → count (F.nodes l) ≡ 0 → (n : ℕ) → F.gen l n ≡ made []) → N ≤ k → (w : F.W) → F.Is w → Emits (F.whole w n₀) n₀ ys₀ ys (Ok m)
   loop_done f h w s = let a = inv w s in so_done (f a.rest (omega (arith, a.counted)) m) a.so
 
   module _ (h : k < N) where
@@ -92,18 +92,19 @@ module _ (F : Family) (N i n₀ : ℕ) (ys₀ : List ℕ) (k j m : ℕ) (ys : Li
     next : (w : F.W) (s : F.Is w) → Sofar (F.whole w) n₀ ys₀ (F.gen_a (un w s).head ⨾ F.gen (un w s).tail) m ys
     next w s = so_same ((un w s).gen_is m) (inv w s).so
 
-    module _ {zs : List ℕ} {r : Made} (ens : (a : F.A) → F.ItemAt j a → Emits (F.gen_a a m) m ys zs r) where
-      pub loop_stop : (zs' : List ℕ) → Stops r → (w : F.W) → F.Is w → Emits (F.whole w n₀) n₀ ys₀ zs' r
-      loop_stop zs' f w s = so_stop (F.gen_a (un w s).head) (F.gen (un w s).tail) f (next w s) (ens (un w s).head (item w s))
+    -- it is refused
+    pub loop_stop : {zs : List ℕ} (zs' : List ℕ) {e : Refusal} → ((a : F.A) → F.ItemAt j a → Emits (F.gen_a a m) m ys zs (Err e)) → (w : F.W) → F.Is w → Emits (F.whole w n₀) n₀ ys₀ zs' (Err e)
+    loop_stop zs' ens w s = so_stop (F.gen_a (un w s).head) (F.gen (un w s).tail) (next w s) (ens (un w s).head (item w s))
 
-      pub loop_more : {q j' : ℕ} → r ≡ At q → After F.tr j j' → Loop F N i n₀ ys₀ (k + 1) j' q zs
-      loop_more e f w s =
-          let je = f (F.node (un w s).head) (parts w s).one in
-          record {
-            rest = (un w s).tail;
-            counted = omega (arith, (inv w s).counted, ap count (un w s).nodes_is, member_count (F.node (un w s).head) (F.nodes (un w s).tail));
-            stands = rw je (parts w s).others;
-            named = (un w s).tail_in (inv w s).named;
-            so = so_then (F.gen_a (un w s).head) (F.gen (un w s).tail) e (next w s) (ens (un w s).head (item w s));
-            beyond = omega (arith, (inv w s).beyond);
-          }
+    -- it is written, up to q
+    pub loop_more : {zs : List ℕ} {q j' : ℕ} → ((a : F.A) → F.ItemAt j a → Emits (F.gen_a a m) m ys zs (Ok q)) → After F.tr j j' → Loop F N i n₀ ys₀ (k + 1) j' q zs
+    loop_more ens f w s =
+        let je = f (F.node (un w s).head) (parts w s).one in
+        record {
+          rest = (un w s).tail;
+          counted = omega (arith, (inv w s).counted, ap count (un w s).nodes_is, member_count (F.node (un w s).head) (F.nodes (un w s).tail));
+          stands = rw je (parts w s).others;
+          named = (un w s).tail_in (inv w s).named;
+          so = so_then (F.gen_a (un w s).head) (F.gen (un w s).tail) (next w s) (ens (un w s).head (item w s));
+          beyond = omega (arith, (inv w s).beyond);
+        }

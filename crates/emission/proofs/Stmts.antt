@@ -5,55 +5,44 @@ use mathlib.Core.Option.{Option, none, some}
 use Prim.Native.Nat.{ℕ, ◌+◌, ◌≤◌}
 use native.Mathlib.Omega.{arith}
 use lib.ListN.{length, get_or}
+use Rattle.std.specs.Prelude.{Result}
 use Rattle.numbers.specs.Limits.{max_code}
+use Rattle.numbers.specs.declared.refusal.Refusal.{Refusal}
 use Rattle.lexer.specs.Tokens.{Name}
-use Rattle.tree.specs.Tree.{Exp, Stmt, call, Stmts, last, more}
+use Rattle.tree.specs.Tree.{Exp, Stmt, assign, call, Stmts, last, more}
 use Rattle.tree.specs.Layout.{assign_kind, call_kind, body_kind, read_kind, write_kind, Node, Nodes, no_more, member, node_no, count}
 use Rattle.tree.specs.Nodes.{list_nodes, name_node, exp_node, exp_nodes, stmt_node, stmt_nodes}
 use Rattle.tree.specs.Named.{NameIn, Each, NamedExp, NamedStmt, NamedStmts}
-use Rattle.tree.specs.Reading.{word_at, branch_at}
+use Rattle.tree.specs.Reading.{first_at, branch_at}
 use Rattle.tree.specs.Heads.{node_head, StmtIs, is_assign, is_call, is_body, is_read, is_write}
-use Rattle.tree.specs.Standing.{NameAt, ExpAt, StmtAt, HasStmt}
-use Rattle.tree.specs.Parts.{NameFirst, name_first, list_count, stmt_by, assign_parts, assigned}
+use Rattle.tree.specs.Standing.{NameAt, HasName, ExpAt, StmtAt, HasStmt}
+use Rattle.tree.specs.Parts.{NameFirst, name_first, list_count, stmt_by, assigned}
 use Rattle.pcode.specs.Operators.{write, new_line, read}
-use Rattle.symbols.specs.Symbols.{Row, find}
-use Rattle.symbols.specs.Table.{part}
-use Rattle.symbols.specs.ByNumbers.{name_is}
-use Rattle.emission.specs.declared.Made.{Made}
 use Rattle.emission.specs.Pieces.{Piece, made, ◌⨾◌, nothing, emit_oper}
 use Rattle.emission.specs.Statements.{Env, row_for, exp_code, args_code, writes_code, storing, reads_code, call_code, stmt_code, stmts_code}
 use Rattle.emission.specs.Draft.{Emits}
 use Rattle.emission.specs.Drafting.{so_start, seq_assoc, seq_nothing}
 use Rattle.emission.proofs.Lists.{Uncons, Family, Along, Loop}
 
--- what the name that a node starts with finds
-abbrev pub sought : List ℕ → List ℕ → ℕ → Env → Option Row
-sought s tr i ρ = find ρ.rows (part s (get_or tr (i + 6) 0) (get_or tr (i + 7) 0)) ρ.scope
-
 -- assignments
 module _ {s tr : List ℕ} {i : ℕ} where
-  pub assign_in : get_or tr i 0 ≡ node_no assign_kind → HasStmt s tr i → (get_or tr (i + 6) 0 + get_or tr (i + 7) 0 ≤ length s) × (i + 8 ≤ length tr)
-  unfolding NamedStmt
-  assign_in k h = of (stmt_by (node_head assign_kind) k h.at) h.at
-    where
-      of : {t : Stmt} → StmtIs (node_head assign_kind) t → StmtAt s tr i t → (get_or tr (i + 6) 0 + get_or tr (i + 7) 0 ≤ length s) × (i + 8 ≤ length tr)
-      of (is_assign n e) a = let w = assign_parts n e a in (omega (arith, w.at6, w.at7, a.named.0.fits), w.fits)
+  assign_name : (m : Name) (e : Exp) → StmtAt s tr i (assign m e) → NameAt s tr (i + 4) m
+  unfolding stmt_node NamedStmt
+  assign_name m e a = record { stands = (first_at tr i assign_kind 0 (name_node m) (member (exp_node 0 e) no_more) a.stands).one; named = a.named.0 }
 
-  pub by_assign : (ρ : Env) {n : ℕ} {ys zs : List ℕ} {r : Made} → get_or tr i 0 ≡ node_no assign_kind → ((e : Exp) → ExpAt s tr (i + 8) e → Emits (storing ρ (exp_code ρ e) (sought s tr i ρ) n) n ys zs r)
+  pub has_target : get_or tr i 0 ≡ node_no assign_kind → HasStmt s tr i → HasName s tr (i + 4)
+  has_target k h = of (stmt_by (node_head assign_kind) k h.at) h.at
+    where
+      of : {t : Stmt} → StmtIs (node_head assign_kind) t → StmtAt s tr i t → HasName s tr (i + 4)
+      of (is_assign m e) a = record { name = m; at = assign_name m e a }
+
+  pub by_assign : (ρ : Env) {n : ℕ} {ys zs : List ℕ} {r : Result ℕ Refusal} → get_or tr i 0 ≡ node_no assign_kind → ((m : Name) (e : Exp) → NameAt s tr (i + 4) m → ExpAt s tr (i + 8) e → Emits (storing ρ (exp_code ρ e) (row_for ρ m) n) n ys zs r)
       → (t : Stmt) → StmtAt s tr i t → Emits (stmt_code ρ t n) n ys zs r
-  unfolding stmt_code NamedStmt
+  unfolding stmt_code
   by_assign ρ {n} {ys} {zs} {r} k h t a = of (stmt_by (node_head assign_kind) k a) a
     where
       of : {u : Stmt} → StmtIs (node_head assign_kind) u → StmtAt s tr i u → Emits (stmt_code ρ u n) n ys zs r
-      of (is_assign m e) x = let w = assign_parts m e x in rw (← name_is {s = s} {n = m} (get_or tr (i + 6) 0) (get_or tr (i + 7) 0) w.at6 w.at7 x.named.0) (h e (assigned m e x))
-
--- a name on its own
-module _ {s tr : List ℕ} {i : ℕ} where
-  pub by_name : (ρ : Env) (g : Piece) {n : ℕ} {ys zs : List ℕ} {r : Made} → Emits (storing ρ g (find ρ.rows (part s (get_or tr (i + 2) 0) (get_or tr (i + 3) 0)) ρ.scope) n) n ys zs r
-      → (t : Name) → NameAt s tr i t → Emits (storing ρ g (row_for ρ t) n) n ys zs r
-  by_name ρ g h t a =
-      let f = word_at tr i 0 t.at (length t.text) a.stands in
-      rw (← name_is {s = s} {n = t} (get_or tr (i + 2) 0) (get_or tr (i + 3) 0) f.at2 f.at3 a.named) h
+      of (is_assign m e) x = h m e (assign_name m e x) (assigned m e x)
 
 -- the laws of a list of nodes
 module _ {A : Type 0} (f : A → Node) (P : A → Type 0) (gen : List A → Piece) (gen_a : A → Piece) (step : (x : A) (l : List A) (n : ℕ) → gen (x ∷ l) n ≡ (gen_a x ⨾ gen l) n) where
@@ -155,30 +144,34 @@ module _ {s tr : List ℕ} {i : ℕ} where
   unfolding stmt_node
   call_parts n es a = name_first tr i call_kind n (exp_nodes es) a.stands
 
-  pub call_in : get_or tr i 0 ≡ node_no call_kind → HasStmt s tr i → (get_or tr (i + 6) 0 + get_or tr (i + 7) 0 ≤ length s) × (i + 8 ≤ length tr) × (1 ≤ get_or tr (i + 2) 0)
-  unfolding NamedStmt stmt_node count
-  call_in k h = of (stmt_by (node_head call_kind) k h.at) h.at
-    where
-      of : {t : Stmt} → StmtIs (node_head call_kind) t → StmtAt s tr i t → (get_or tr (i + 6) 0 + get_or tr (i + 7) 0 ≤ length s) × (i + 8 ≤ length tr) × (1 ≤ get_or tr (i + 2) 0)
-      of (is_call n es) a = let w = call_parts n es a in (omega (arith, w.at6, w.at7, a.named.0.fits), w.fits, omega (arith, (branch_at tr i call_kind 0 (member (name_node n) (exp_nodes es)) a.stands).at2))
+  pub call_name : (n : Name) (es : List Exp) → StmtAt s tr i (call n es) → NameAt s tr (i + 4) n
+  unfolding stmt_node NamedStmt
+  call_name n es a = record { stands = (first_at tr i call_kind 0 (name_node n) (exp_nodes es) a.stands).one; named = a.named.0 }
 
   pub call_length : (n : Name) (es : List Exp) → StmtAt s tr i (call n es) → get_or tr (i + 2) 0 ≡ length es + 1
   unfolding stmt_node count
   call_length n es a = omega (arith, (branch_at tr i call_kind 0 (member (name_node n) (exp_nodes es)) a.stands).at2, list_count (exp_node 0) es)
-
-  pub by_call : (ρ : Env) {n : ℕ} {ys zs : List ℕ} {r : Made} → get_or tr i 0 ≡ node_no call_kind → ((f : Name) (es : List Exp) → StmtAt s tr i (call f es) → Emits (call_code ρ es (sought s tr i ρ) n) n ys zs r)
-      → (t : Stmt) → StmtAt s tr i t → Emits (stmt_code ρ t n) n ys zs r
-  unfolding stmt_code NamedStmt
-  by_call ρ {n} {ys} {zs} {r} k h t a = of (stmt_by (node_head call_kind) k a) a
-    where
-      of : {u : Stmt} → StmtIs (node_head call_kind) u → StmtAt s tr i u → Emits (stmt_code ρ u n) n ys zs r
-      of (is_call m es) x = let w = call_parts m es x in rw (← name_is {s = s} {n = m} (get_or tr (i + 6) 0) (get_or tr (i + 7) 0) w.at6 w.at7 x.named.0) (h m es x)
 
   pub the_call : get_or tr i 0 ≡ node_no call_kind → HasStmt s tr i → (w : Name × List Exp) × StmtAt s tr i (call w.0 w.1)
   the_call k h = of (stmt_by (node_head call_kind) k h.at) h.at
     where
       of : {t : Stmt} → StmtIs (node_head call_kind) t → StmtAt s tr i t → (w : Name × List Exp) × StmtAt s tr i (call w.0 w.1)
       of (is_call n es) a = ((n, es), a)
+
+  pub has_callee : get_or tr i 0 ≡ node_no call_kind → HasStmt s tr i → HasName s tr (i + 4)
+  has_callee k h = let w = the_call k h in record { name = w.0.0; at = call_name w.0.0 w.0.1 w.1 }
+
+  -- eight numbers are there, and it has a member
+  pub call_fits : get_or tr i 0 ≡ node_no call_kind → HasStmt s tr i → (i + 8 ≤ length tr) × (1 ≤ get_or tr (i + 2) 0)
+  call_fits k h = let w = the_call k h in ((call_parts w.0.0 w.0.1 w.1).fits, omega (arith, call_length w.0.0 w.0.1 w.1))
+
+  pub by_call : (ρ : Env) {n : ℕ} {ys zs : List ℕ} {r : Result ℕ Refusal} → get_or tr i 0 ≡ node_no call_kind → ((f : Name) (es : List Exp) → StmtAt s tr i (call f es) → Emits (call_code ρ es (row_for ρ f) n) n ys zs r)
+      → (t : Stmt) → StmtAt s tr i t → Emits (stmt_code ρ t n) n ys zs r
+  unfolding stmt_code
+  by_call ρ {n} {ys} {zs} {r} k h t a = of (stmt_by (node_head call_kind) k a) a
+    where
+      of : {u : Stmt} → StmtIs (node_head call_kind) u → StmtAt s tr i u → Emits (stmt_code ρ u n) n ys zs r
+      of (is_call m es) x = h m es x
 
 -- a call's arguments
 module _ (s tr : List ℕ) (ρ : Env) where

@@ -1,15 +1,15 @@
 -- The draft: four numbers for each instruction, and what an answer and the draft have to do with a piece of code.
-use Rattle.std.specs.Prelude.{◌≡◌, List, [], ◌∷◌, ◌++◌, ℕ, ◌+◌, ◌*◌, ◌/◌, ◌%◌, ◌≤◌, length, take}
+use Rattle.std.specs.Prelude.{◌≡◌, List, [], ◌∷◌, ◌++◌, ℕ, ◌+◌, ◌*◌, ◌/◌, ◌%◌, ◌≤◌, length, take, Result, Ok, Err}
 use Rattle.std.specs.Int.{w64}
 use Rattle.std.proofs.Common.{of_z}
 use Rattle.numbers.specs.Limits.{max_code, draft_share}
+use Rattle.numbers.specs.declared.refusal.Refusal.{Refusal}
+use Rattle.numbers.specs.Refusals.{number_of}
 use Rattle.tree.specs.Layout.{half}
 use Rattle.pcode.specs.Code.{Op, NIL, LIT, OPR, LOD, STO, STA, CAL, INT, JMP, JPC, RED, WRT, Instr}
-use Rattle.emission.specs.declared.Made.{Made}
-use Rattle.emission.specs.declared.Made.TheVariants.{At, Refused}
 use Rattle.emission.specs.Pieces.{Out, made, refuse}
 
--- a kind's number in the draft: that of `PcodeType`; no NIL is drafted
+-- a kind's number in the draft: that of `PcodeType` as a byte
 abbrev pub op_no : Op → ℕ
 op_no LIT = 0
 op_no OPR = 1
@@ -22,7 +22,7 @@ op_no JMP = 7
 op_no JPC = 8
 op_no RED = 9
 op_no WRT = 10
-op_no NIL = 11
+op_no NIL = 255
 
 -- a value by its halves
 abbrev pub whole : ℕ → ℕ → ℕ
@@ -42,6 +42,6 @@ pub record Wrote (o : Out) (n : ℕ) (xs ys : List ℕ) (m : ℕ) : Type 0 where
   pub most : m ≤ max_code
 
 -- an answer and what was drafted are those of a piece from n on
-pub data Emits (o : Out) (n : ℕ) (xs ys : List ℕ) : Made → Type 0 where
-  wrote : {m : ℕ} → Wrote o n xs ys m → Emits o n xs ys (At m)
-  refused : {e : ℕ} → o ≡ refuse e → Emits o n xs ys (Refused e)
+pub data Emits (o : Out) (n : ℕ) (xs ys : List ℕ) : Result ℕ Refusal → Type 0 where
+  wrote : {m : ℕ} → Wrote o n xs ys m → Emits o n xs ys (Ok m)
+  refused : {e : Refusal} → o ≡ refuse (number_of e) → Emits o n xs ys (Err e)

@@ -1,15 +1,14 @@
 -- Laws of pieces of code and of the draft that they are written to.
-use Rattle.std.specs.Prelude.{◌≡◌, refl, List, [], ◌∷◌, ◌++◌, ℕ, ◌+◌, ◌-◌, ◌*◌, ◌/◌, ◌%◌, ◌≤◌, ◌<◌, ℤ, pos, length, take, set}
+use Rattle.std.specs.Prelude.{◌≡◌, refl, List, [], ◌∷◌, ◌++◌, ℕ, ◌+◌, ◌-◌, ◌*◌, ◌/◌, ◌%◌, ◌≤◌, ◌<◌, ℤ, pos, length, take, Result, Ok, Err}
 use Rattle.std.proofs.Common.{sym, ap, ◌∙◌, append_assoc, arith, length-append, lt-ltb, le-ltb, le-leb}
 use Rattle.std.proofs.lemmas.Bool.{lt-leb}
-use Rattle.numbers.specs.Limits.{max_code, draft_places, draft_share}
-use Rattle.numbers.specs.Panel.{too_many_instructions, level_above}
+use Rattle.numbers.specs.Limits.{max_code, draft_share}
+use Rattle.numbers.specs.declared.refusal.Refusal.{Refusal}
+use Rattle.numbers.specs.declared.refusal.Refusal.TheVariants.{TooManyInstructions, LevelAbove}
+use Rattle.numbers.specs.Refusals.{number_of}
 use Rattle.tree.specs.Layout.{half}
-use Rattle.tree.specs.Writing.{four_put}
 use Rattle.pcode.specs.Code.{Op, Instr, ins}
 use Rattle.symbols.specs.Symbols.{Row}
-use Rattle.emission.specs.declared.Made.{Made}
-use Rattle.emission.specs.declared.Made.TheVariants.{At, Refused}
 use Rattle.emission.specs.Pieces.{Out, made, refuse, Piece, before, onward, ◌⨾◌, nothing, refusing, emit}
 use Rattle.emission.specs.Statements.{Env, reach}
 use Rattle.emission.specs.Draft.{op_no, whole, drafted, Wrote, Emits, wrote, refused}
@@ -31,10 +30,9 @@ unfolding emit
 emitted o l a n h = rw (lt-ltb n max_code h, emit)
 
 -- the four numbers are put down
-pub put : (o : Op) (l low high n : ℕ) (xs : List ℕ) → low < half → draft_places ≤ length xs → n < max_code
-    → Emits (emit o l (pos (whole low high)) n) n xs (set (set (set (set xs (4 * n) (op_no o)) (4 * n + 1) l) (4 * n + 2) low) (4 * n + 3) high) (At (n + 1))
+pub put : (o : Op) (l low high n : ℕ) (xs ys : List ℕ) → low < half → n < max_code → take (draft_share * n + 4) ys ≡ take (draft_share * n) xs ++ (op_no o ∷ l ∷ low ∷ high ∷ []) → Emits (emit o l (pos (whole low high)) n) n xs ys (Ok (n + 1))
 unfolding drafted
-put o l low high n xs b room h =
+put o l low high n xs ys b h lies =
     let ends : draft_share * (n + 1) ≡ draft_share * n + 4 = omega arith in
     let el : whole low high % half ≡ low = omega arith in
     let eh : whole low high / half ≡ high = omega arith in
@@ -43,50 +41,39 @@ put o l low high n xs b room h =
       code = ins o l (pos (whole low high)) ∷ [];
       is = emitted o l (pos (whole low high)) n h;
       ends = omega arith;
-      lies = rw (ends, el, eh) (four_put xs (draft_share * n) (op_no o) l low high (omega arith));
+      lies = rw (ends, el, eh) lies;
       most = omega arith;
     })
 
 -- or there is no place left
-pub full : (o : Op) (l : ℕ) (a : ℤ) (n : ℕ) (xs ys : List ℕ) → max_code ≤ n → Emits (emit o l a n) n xs ys (Refused too_many_instructions)
+pub full : (o : Op) (l : ℕ) (a : ℤ) (n : ℕ) (xs ys : List ℕ) → max_code ≤ n → Emits (emit o l a n) n xs ys (Err TooManyInstructions)
 unfolding emit
-full o l a n xs ys h = refused {e = too_many_instructions} (rw (le-ltb n max_code h, emit))
+full o l a n xs ys h = refused {e = TooManyInstructions} (rw (le-ltb n max_code h, emit))
 
 -- the same piece by another name
-pub same : {o o' : Out} {n : ℕ} {xs ys : List ℕ} {r : Made} → o ≡ o' → Emits o' n xs ys r → Emits o n xs ys r
+pub same : {o o' : Out} {n : ℕ} {xs ys : List ℕ} {r : Result ℕ Refusal} → o ≡ o' → Emits o' n xs ys r → Emits o n xs ys r
 same e h = rw e h
 
 -- an operand of one half
-pub narrow : (o : Op) (l a n : ℕ) {xs ys : List ℕ} {r : Made} → Emits (emit o l (pos (whole a 0)) n) n xs ys r → Emits (emit o l (pos a) n) n xs ys r
+pub narrow : (o : Op) (l a n : ℕ) {xs ys : List ℕ} {r : Result ℕ Refusal} → Emits (emit o l (pos (whole a 0)) n) n xs ys r → Emits (emit o l (pos a) n) n xs ys r
 narrow o l a n h = let e : a ≡ whole a 0 = omega arith in rw e h
 
 -- "Levels: current minus the row's"
-pub reach_not : (o : Op) (ρ : Env) (w : Row) (a n : ℕ) (xs ys : List ℕ) → ρ.level < w.level → Emits (reach o ρ w a n) n xs ys (Refused level_above)
+pub reach_not : (o : Op) (ρ : Env) (w : Row) (a n : ℕ) (xs ys : List ℕ) → ρ.level < w.level → Emits (reach o ρ w a n) n xs ys (Err LevelAbove)
 unfolding reach refusing
-reach_not o ρ w a n xs ys h = refused {e = level_above} (rw (lt-leb w.level ρ.level h, reach))
+reach_not o ρ w a n xs ys h = refused {e = LevelAbove} (rw (lt-leb w.level ρ.level h, reach))
 
-pub reach_on : (o : Op) (ρ : Env) (w : Row) (a n : ℕ) {xs ys : List ℕ} {r : Made} → w.level ≤ ρ.level → Emits (emit o (ρ.level - w.level) (pos a) n) n xs ys r → Emits (reach o ρ w a n) n xs ys r
+pub reach_on : (o : Op) (ρ : Env) (w : Row) (a n : ℕ) {xs ys : List ℕ} {r : Result ℕ Refusal} → w.level ≤ ρ.level → Emits (emit o (ρ.level - w.level) (pos a) n) n xs ys r → Emits (reach o ρ w a n) n xs ys r
 unfolding reach
 reach_on o ρ w a n h e = same (rw (le-leb w.level ρ.level h, reach)) e
 
--- what an answer says
-pub wrote_at : {o : Out} {n : ℕ} {xs ys : List ℕ} {r : Made} {m : ℕ} → r ≡ At m → Emits o n xs ys r → Wrote o n xs ys m
-wrote_at {o} {n} {xs} {ys} {r} {m} e h = of (rw e at h)
-  where
-    of : Emits o n xs ys (At m) → Wrote o n xs ys m
-    of (wrote w) = w
-
--- r is no place, so that it is a refusal
-abbrev pub Stops : Made → Type 0
-Stops r = (m : ℕ) → r ≡ At m → ⊥
-
-pub stops : {r : Made} {e : ℕ} → r ≡ Refused e → Stops r
-stops p m q = let z : ◌≡◌ {A = ℕ} 0 1 = cc in omega arith
+-- what a place says that was reached
+pub wrote_at : {o : Out} {n : ℕ} {xs ys : List ℕ} {m : ℕ} → Emits o n xs ys (Ok m) → Wrote o n xs ys m
+wrote_at (wrote w) = w
 
 -- a refusal is one of whatever draft is left
-pub refusal : {o o' : Out} {n n' : ℕ} {xs ys xs' ys' : List ℕ} {r : Made} → Stops r → ((e : ℕ) → o ≡ refuse e → o' ≡ refuse e) → Emits o n xs ys r → Emits o' n' xs' ys' r
-refusal f k (wrote {m} w) = absurd (f m refl)
-refusal f k (refused {e} h) = refused (k e h)
+pub refusal : {o o' : Out} {n n' : ℕ} {xs ys xs' ys' : List ℕ} {e : Refusal} → ((k : ℕ) → o ≡ refuse k → o' ≡ refuse k) → Emits o n xs ys (Err e) → Emits o' n' xs' ys' (Err e)
+refusal {e} k (refused h) = refused (k (number_of e) h)
 
 -- pieces, one after the other
 
@@ -126,10 +113,10 @@ unfolding ◌⨾◌
 seq_is g h n c e = ap (onward n h) e
 
 -- the next piece is written
-pub so_then : {g₀ : Piece} {n₀ : ℕ} {xs : List ℕ} (g h : Piece) {n : ℕ} {ys zs : List ℕ} {r : Made} {m : ℕ} → r ≡ At m
-    → Sofar g₀ n₀ xs (g ⨾ h) n ys → Emits (g n) n ys zs r → Sofar g₀ n₀ xs h m zs
-so_then {g₀} {n₀} {xs} g h {n} {ys} {zs} {r} {m} e s v =
-    let w = wrote_at e v in
+pub so_then : {g₀ : Piece} {n₀ : ℕ} {xs : List ℕ} (g h : Piece) {n : ℕ} {ys zs : List ℕ} {m : ℕ}
+    → Sofar g₀ n₀ xs (g ⨾ h) n ys → Emits (g n) n ys zs (Ok m) → Sofar g₀ n₀ xs h m zs
+so_then {g₀} {n₀} {xs} g h {n} {ys} {zs} {m} s v =
+    let w = wrote_at v in
     record {
       code = s.code ++ w.code;
       is = s.is ∙ ap (before s.code) (seq_is g h n w.code w.is ∙ ap (λ (x : ℕ). before w.code (h x)) (sym w.ends)) ∙ before_before s.code w.code (h m);
@@ -148,28 +135,28 @@ end_wrote {g₀} {n₀} {xs} {g} {n} {ys} {zs} {m} s w = record {
 }
 
 -- the last piece is written, or refused
-pub so_last : {g₀ : Piece} {n₀ : ℕ} {xs : List ℕ} {g : Piece} {n : ℕ} {ys zs : List ℕ} {r : Made} → Sofar g₀ n₀ xs g n ys → Emits (g n) n ys zs r → Emits (g₀ n₀) n₀ xs zs r
+pub so_last : {g₀ : Piece} {n₀ : ℕ} {xs : List ℕ} {g : Piece} {n : ℕ} {ys zs : List ℕ} {r : Result ℕ Refusal} → Sofar g₀ n₀ xs g n ys → Emits (g n) n ys zs r → Emits (g₀ n₀) n₀ xs zs r
 so_last s (wrote w) = wrote (end_wrote s w)
 so_last s (refused h) = refused (s.is ∙ ap (before s.code) h)
 
 -- nothing is left
-pub so_done : {g₀ : Piece} {n₀ : ℕ} {xs : List ℕ} {g : Piece} {n : ℕ} {ys : List ℕ} → g n ≡ made [] → Sofar g₀ n₀ xs g n ys → Emits (g₀ n₀) n₀ xs ys (At n)
+pub so_done : {g₀ : Piece} {n₀ : ℕ} {xs : List ℕ} {g : Piece} {n : ℕ} {ys : List ℕ} → g n ≡ made [] → Sofar g₀ n₀ xs g n ys → Emits (g₀ n₀) n₀ xs ys (Ok n)
 unfolding drafted
 so_done {n} {ys} e s = wrote (end_wrote s (record { code = []; is = e; ends = omega arith; lies = append_nil (take (draft_share * n) ys); most = s.most }))
 
 -- the next piece is refused
-pub so_stop : {g₀ : Piece} {n₀ : ℕ} {xs : List ℕ} (g h : Piece) {n : ℕ} {ys zs zs' : List ℕ} {r : Made} → Stops r
-    → Sofar g₀ n₀ xs (g ⨾ h) n ys → Emits (g n) n ys zs r → Emits (g₀ n₀) n₀ xs zs' r
+pub so_stop : {g₀ : Piece} {n₀ : ℕ} {xs : List ℕ} (g h : Piece) {n : ℕ} {ys zs zs' : List ℕ} {e : Refusal}
+    → Sofar g₀ n₀ xs (g ⨾ h) n ys → Emits (g n) n ys zs (Err e) → Emits (g₀ n₀) n₀ xs zs' (Err e)
 unfolding ◌⨾◌
-so_stop g h {n} f s w = refusal f (λ e q. s.is ∙ ap (before s.code) (ap (onward n h) q)) w
+so_stop g h {n} s w = refusal (λ k q. s.is ∙ ap (before s.code) (ap (onward n h) q)) w
 
 -- two pieces
-pub stop : (g h : Piece) {n : ℕ} {ys zs zs' : List ℕ} {r : Made} → Stops r → Emits (g n) n ys zs r → Emits ((g ⨾ h) n) n ys zs' r
+pub stop : (g h : Piece) {n : ℕ} {ys zs zs' : List ℕ} {e : Refusal} → Emits (g n) n ys zs (Err e) → Emits ((g ⨾ h) n) n ys zs' (Err e)
 unfolding ◌⨾◌
-stop g h {n} f w = refusal f (λ e q. ap (onward n h) q) w
+stop g h {n} w = refusal (λ k q. ap (onward n h) q) w
 
-pub then : (g h : Piece) {n : ℕ} {xs ys zs : List ℕ} {r r' : Made} {m : ℕ} → n ≤ max_code → r ≡ At m → Emits (g n) n xs ys r → Emits (h m) m ys zs r' → Emits ((g ⨾ h) n) n xs zs r'
-then g h b e v w = so_last (so_then g h e (so_start (g ⨾ h) b) v) w
+pub then : (g h : Piece) {n : ℕ} {xs ys zs : List ℕ} {r : Result ℕ Refusal} {m : ℕ} → n ≤ max_code → Emits (g n) n xs ys (Ok m) → Emits (h m) m ys zs r → Emits ((g ⨾ h) n) n xs zs r
+then g h b v w = so_last (so_then g h (so_start (g ⨾ h) b) v) w
 
 -- three pieces, however they are joined
 pub seq_assoc : (g h k : Piece) (n : ℕ) → (g ⨾ h ⨾ k) n ≡ ((g ⨾ h) ⨾ k) n

@@ -1,5 +1,5 @@
 -- Laws of jumps: emitted with no target, and pointed past a piece once it is written.
-use Rattle.std.specs.Prelude.{◌≡◌, refl, Bool, true, false, ℤ, pos, ltb}
+use Rattle.std.specs.Prelude.{◌≡◌, refl, Bool, true, false, ℤ, pos, ltb, Ok, Err}
 use Rattle.std.proofs.Common.{sym, ◌∙◌, lt-ltb, ltb-true}
 use Rattle.std.proofs.Math.Path.{ap}
 use mathlib.Core.List.{List, [], ◌∷◌, ◌++◌, append_assoc}
@@ -9,13 +9,12 @@ use Rattle.std.proofs.Math.ListN.{length, take, set, length-append}
 use Rattle.std.proofs.Math.Seq.{take-set-lt, set_at, length-take-le}
 use Rattle.numbers.specs.Limits.{max_code, draft_places, draft_share}
 use Rattle.numbers.specs.Panel.{too_many_instructions}
+use Rattle.numbers.specs.declared.refusal.Refusal.{Refusal}
 use Rattle.tree.specs.Layout.{half}
 use Rattle.pcode.specs.Code.{Op, Instr, ins}
-use Rattle.emission.specs.declared.Made.{Made}
-use Rattle.emission.specs.declared.Made.TheVariants.{At}
 use Rattle.emission.specs.Pieces.{Out, made, refuse, Piece, nothing, emit, jump_past, jump_over}
 use Rattle.emission.specs.Draft.{op_no, drafted, Emits, wrote}
-use Rattle.emission.specs.Drafting.{wrote_at, refusal, Stops, so_start, so_done}
+use Rattle.emission.specs.Drafting.{wrote_at, refusal, so_start, so_done}
 
 emit_inv : (o : Op) (l : ℕ) (a : ℤ) (p : ℕ) (c : List Instr) (b : Bool) → ltb p max_code ≡ b
     → ◌≡◌ {A = Out} (elim b [ true ↦ made (ins o l a ∷ []) | false ↦ refuse too_many_instructions ]) (made c) → (p < max_code) × (c ≡ ins o l a ∷ [])
@@ -28,10 +27,10 @@ pub record One (o : Op) (l : ℕ) (a : ℤ) (p m : ℕ) (ys zs : List ℕ) : Typ
   pub ends : m ≡ p + 1
   pub lies : take (draft_share * m) zs ≡ take (draft_share * p) ys ++ drafted (ins o l a ∷ [])
 
-pub one : {o : Op} {l : ℕ} {a : ℤ} {p : ℕ} {ys zs : List ℕ} {r : Made} {m : ℕ} → r ≡ At m → Emits (emit o l a p) p ys zs r → One o l a p m ys zs
+pub one : {o : Op} {l : ℕ} {a : ℤ} {p : ℕ} {ys zs : List ℕ} {m : ℕ} → Emits (emit o l a p) p ys zs (Ok m) → One o l a p m ys zs
 unfolding emit
-one {o} {l} {a} {p} {ys} e h =
-    let w = wrote_at e h in
+one {o} {l} {a} {p} {ys} h =
+    let w = wrote_at h in
     let i = emit_inv o l a p w.code (ltb p max_code) refl w.is in
     record { below = i.0; ends = w.ends ∙ ap (λ (c : List Instr). p + length c) i.1; lies = w.lies ∙ ap (λ (c : List Instr). take (draft_share * p) ys ++ drafted c) i.1 }
 
@@ -40,9 +39,9 @@ no_jump : (i : Instr) (e : ℕ) (x : Out) (b : Bool) → ◌≡◌ {A = Out} (el
 no_jump i e x true h = let z : ◌≡◌ {A = ℕ} 0 1 = cc in absurd (omega arith)
 no_jump i e x false h = h
 
-pub jump_full : (o : Op) (k p : ℕ) (g : Piece) {ys zs : List ℕ} (zs' : List ℕ) {r : Made} → Stops r → Emits (emit o 0 (pos 0) p) p ys zs r → Emits (jump_over o k g p) p ys zs' r
+pub jump_full : (o : Op) (k p : ℕ) (g : Piece) {ys zs : List ℕ} (zs' : List ℕ) {e : Refusal} → Emits (emit o 0 (pos 0) p) p ys zs (Err e) → Emits (jump_over o k g p) p ys zs' (Err e)
 unfolding emit jump_over
-jump_full o k p g zs' f h = refusal f (λ e q. no_jump (ins o 0 (pos 0)) e (jump_past o k p (g (suc p))) (ltb p max_code) q) h
+jump_full o k p g zs' h = refusal (λ e q. no_jump (ins o 0 (pos 0)) e (jump_past o k p (g (suc p))) (ltb p max_code) q) h
 
 module _ (o : Op) (k p m : ℕ) (g : Piece) {ys zs : List ℕ} (w : One o 0 (pos 0) p m ys zs) where
   jump_is : (x : Out) → g m ≡ x → jump_over o k g p ≡ jump_past o k p x
@@ -50,14 +49,14 @@ module _ (o : Op) (k p m : ℕ) (g : Piece) {ys zs : List ℕ} (w : One o 0 (pos
   jump_is x q = let e : suc p ≡ m = omega (arith, w.ends) in rw (lt-ltb p max_code w.below, jump_over) (ap (jump_past o k p) (ap g e ∙ q))
 
   -- the piece is refused
-  pub jump_stop : {ws : List ℕ} (ws' : List ℕ) {r : Made} → Stops r → Emits (g m) m zs ws r → Emits (jump_over o k g p) p ys ws' r
-  jump_stop ws' f h = refusal f (λ e q. jump_is (refuse e) q) h
+  pub jump_stop : {ws : List ℕ} (ws' : List ℕ) {e : Refusal} → Emits (g m) m zs ws (Err e) → Emits (jump_over o k g p) p ys ws' (Err e)
+  jump_stop ws' h = refusal (λ e q. jump_is (refuse e) q) h
 
   -- the piece is written, and the jump is pointed past it
-  pub jump_made : {ws : List ℕ} {r : Made} {q : ℕ} (v : ℕ) → r ≡ At q → v ≡ q + k → v < half → draft_places ≤ length ys → Emits (g m) m zs ws r → Emits (jump_over o k g p) p ys (set ws (draft_share * p + 2) v) (At q)
+  pub jump_made : {ws : List ℕ} {q : ℕ} (v : ℕ) → v ≡ q + k → v < half → draft_places ≤ length ys → Emits (g m) m zs ws (Ok q) → Emits (jump_over o k g p) p ys (set ws (draft_share * p + 2) v) (Ok q)
   unfolding drafted
-  jump_made {ws} {r} {q} v e ev small room h =
-      let x = wrote_at e h in
+  jump_made {ws} {q} v ev small room h =
+      let x = wrote_at h in
       let a = take (draft_share * p) ys in
       let la : length a ≡ draft_share * p = length-take-le (draft_share * p) ys (omega (arith, w.below)) in
       let lb : length (a ++ (op_no o ∷ 0 ∷ [])) ≡ draft_share * p + 2 = omega (arith, length-append a (op_no o ∷ 0 ∷ [])) in
@@ -79,6 +78,6 @@ module _ (o : Op) (k p m : ℕ) (g : Piece) {ys zs : List ℕ} (w : One o 0 (pos
       })
 
 -- nothing is written at once
-pub nothing_made : (m : ℕ) (ws : List ℕ) → m ≤ max_code → Emits (nothing m) m ws ws (At m)
+pub nothing_made : (m : ℕ) (ws : List ℕ) → m ≤ max_code → Emits (nothing m) m ws ws (Ok m)
 unfolding nothing
 nothing_made m ws b = so_done {g = nothing} refl (so_start nothing b)

@@ -4,3 +4,5 @@ pub mod Draft
 pub mod Meets
 pub mod Drafting
 pub mod Jumps
+pub mod Sought
+pub mod Passed

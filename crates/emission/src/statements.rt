@@ -6,367 +6,216 @@ ghost use Rattle.tree.specs.Layout.{assign_kind, if_kind, while_kind, call_kind,
 ghost use Rattle.tree.specs.Standing.{NameAt, HasName, StmtAt, HasStmt, GuardAt, HasGuard};
 ghost use Rattle.pcode.specs.Code;
 ghost use Rattle.pcode.specs.Operators.{read};
-ghost use Rattle.pcode.specs.Code;
 ghost use Rattle.emission.specs.Pieces.{◌⨾◌, emit_oper, jump_over};
 ghost use Rattle.emission.specs.Statements.{row_for, storing, args_code, cond_code, stmt_code};
 ghost use Rattle.emission.specs.Draft.{Emits};
-ghost use Rattle.emission.specs.Meets.{here_of, Ready};
+ghost use Rattle.emission.specs.Meets.{here_of, Known, Ready};
+ghost use Rattle.emission.specs.Sought.{Sought, Stored, Called};
 
-use crate::expressions::{Env, Looked, NAME_NOT_FOUND, WRONG_KIND, exp, l_exp, lookup, operated};
-use crate::{CAL, JMP, JPC, Made, NEW_LINE, OPR, READ, STO, WRITE, emit, fix, reach};
-use symbols::{CONSTANT, VARIABLE};
+use crate::expressions::{exp, l_exp, lookup, operated};
+use crate::{Env, emit, emit_oper, fix, reach};
+use numbers::refusal::Refusal;
+use pcode::{Kind, Operator};
+use symbols::Symbol;
+use tree::HEADER;
 
-// The panel's number.
-const WRONG_ARGUMENTS: u8 = 12;
+// The row that the name at i finds.
+fn named(env: &Env<'_>, i: usize) -> Result<Symbol, Refusal>
+    requires known { Known env.now }
+    requires has_name { HasName env.now.text.now env.now.tree.now i }
+    ensures { (t : Name) → NameAt env.now.text.now env.now.tree.now i t → Sought env.now (row_for (here_of env.now) t) result }
+{
+    lookup(env, env.tree[i + 2], env.tree[i + 3]).ok_or(Refusal::NameNotFound)
+}
+
+// The variable whose name stands at i.
+fn variable(env: &Env<'_>, i: usize) -> Result<Symbol, Refusal>
+    requires known { Known env.now }
+    requires has_name { HasName env.now.text.now env.now.tree.now i }
+    ensures { (t : Name) → NameAt env.now.text.now env.now.tree.now i t → Stored env.now (row_for (here_of env.now) t) result }
+{
+    let y = named(env, i)?;
+    match y.kind {
+        symbols::Kind::Variable => Ok(y),
+        _ => Err(Refusal::WrongKind),
+    }
+}
 
 // name := expression.
-fn assign(
-    tree: &[u32],
-    i: usize,
-    text: &[u8],
-    table: &[u32],
-    env: Env,
-    draft: &mut [u32],
-    n: usize,
-) -> Made
-    requires ready { Ready text.now table.now env draft.old n }
-    requires has_stmt { HasStmt text.now tree.now i }
-    requires has_kind { get_or tree.now i 0 ≡ node_no assign_kind }
-    ensures { (t : Stmt) → StmtAt text.now tree.now i t → Emits (stmt_code (here_of text.now table.now env) t n) n draft.old draft.new result }
+fn assign(env: &Env<'_>, i: usize, draft: &mut [u32], n: usize) -> Result<usize, Refusal>
+    requires ready { Ready env.now draft.old n }
+    requires has_stmt { HasStmt env.now.text.now env.now.tree.now i }
+    requires has_kind { get_or env.now.tree.now i 0 ≡ node_no assign_kind }
+    ensures { (t : Stmt) → StmtAt env.now.text.now env.now.tree.now i t → Emits (stmt_code (here_of env.now) t n) n draft.old draft.new result }
 {
-    let f = lookup(text, table, env, tree[i + 6], tree[i + 7]);
-    let Looked::Row(y) = f else {
-        return Made::Refused(NAME_NOT_FOUND);
-    };
-    if y.kind != VARIABLE {
-        return Made::Refused(WRONG_KIND);
-    }
-    let r = exp(tree, i + 8, text, table, env, draft, n);
-    let Made::At(m) = r else {
-        return r;
-    };
-    reach(draft, m, STO, env.level, y.level, y.address, 0)
+    let y = variable(env, i + HEADER)?;
+    let m = exp(env, i + 2 * HEADER, draft, n)?;
+    reach(draft, m, Kind::Sto, env.level, y.level, y.address, 0)
 }
 
 // One name that is read.
-fn read_one(
-    tree: &[u32],
-    i: usize,
-    text: &[u8],
-    table: &[u32],
-    env: Env,
-    draft: &mut [u32],
-    n: usize,
-) -> Made
-    requires ready { Ready text.now table.now env draft.old n }
-    requires has_name { HasName text.now tree.now i }
-    ensures { (t : Name) → NameAt text.now tree.now i t → Emits (storing (here_of text.now table.now env) (emit_oper read) (row_for (here_of text.now table.now env) t) n) n draft.old draft.new result }
+fn read_one(env: &Env<'_>, i: usize, draft: &mut [u32], n: usize) -> Result<usize, Refusal>
+    requires ready { Ready env.now draft.old n }
+    requires has_name { HasName env.now.text.now env.now.tree.now i }
+    ensures { (t : Name) → NameAt env.now.text.now env.now.tree.now i t → Emits (storing (here_of env.now) (emit_oper read) (row_for (here_of env.now) t) n) n draft.old draft.new result }
 {
-    let f = lookup(text, table, env, tree[i + 2], tree[i + 3]);
-    let Looked::Row(y) = f else {
-        return Made::Refused(NAME_NOT_FOUND);
-    };
-    if y.kind != VARIABLE {
-        return Made::Refused(WRONG_KIND);
-    }
-    let r = emit(draft, n, OPR, 0, READ);
-    let Made::At(m) = r else {
-        return r;
-    };
-    reach(draft, m, STO, env.level, y.level, y.address, 0)
+    let y = variable(env, i)?;
+    let m = emit_oper(draft, n, Operator::Read)?;
+    reach(draft, m, Kind::Sto, env.level, y.level, y.address, 0)
 }
 
 // read(..).
-fn read(
-    tree: &[u32],
-    i: usize,
-    text: &[u8],
-    table: &[u32],
-    env: Env,
-    draft: &mut [u32],
-    n: usize,
-) -> Made
-    requires ready { Ready text.now table.now env draft.old n }
-    requires has_stmt { HasStmt text.now tree.now i }
-    requires has_kind { get_or tree.now i 0 ≡ node_no read_kind }
-    ensures { (t : Stmt) → StmtAt text.now tree.now i t → Emits (stmt_code (here_of text.now table.now env) t n) n draft.old draft.new result }
+fn read(env: &Env<'_>, i: usize, draft: &mut [u32], n: usize) -> Result<usize, Refusal>
+    requires ready { Ready env.now draft.old n }
+    requires has_stmt { HasStmt env.now.text.now env.now.tree.now i }
+    requires has_kind { get_or env.now.tree.now i 0 ≡ node_no read_kind }
+    ensures { (t : Stmt) → StmtAt env.now.text.now env.now.tree.now i t → Emits (stmt_code (here_of env.now) t n) n draft.old draft.new result }
 {
-    let count = tree::number_at(tree, i + 2);
-    let mut j = i + 4;
+    let mut j = i + HEADER;
     let mut m = n;
-    let mut k = 0;
-    while k < count {
-        let r = read_one(tree, j, text, table, env, draft, m);
-        let Made::At(q) = r else {
-            return r;
-        };
-        m = q;
-        j = tree::after(tree, j);
-        k += 1;
+    for _ in 0..env.tree[i + 2] {
+        m = read_one(env, j, draft, m)?;
+        j = tree::after(env.tree, j);
     }
-    Made::At(m)
+    Ok(m)
 }
 
 // write(..).
-fn write(
-    tree: &[u32],
-    i: usize,
-    text: &[u8],
-    table: &[u32],
-    env: Env,
-    draft: &mut [u32],
-    n: usize,
-) -> Made
-    requires ready { Ready text.now table.now env draft.old n }
-    requires has_stmt { HasStmt text.now tree.now i }
-    requires has_kind { get_or tree.now i 0 ≡ node_no write_kind }
-    ensures { (t : Stmt) → StmtAt text.now tree.now i t → Emits (stmt_code (here_of text.now table.now env) t n) n draft.old draft.new result }
+fn write(env: &Env<'_>, i: usize, draft: &mut [u32], n: usize) -> Result<usize, Refusal>
+    requires ready { Ready env.now draft.old n }
+    requires has_stmt { HasStmt env.now.text.now env.now.tree.now i }
+    requires has_kind { get_or env.now.tree.now i 0 ≡ node_no write_kind }
+    ensures { (t : Stmt) → StmtAt env.now.text.now env.now.tree.now i t → Emits (stmt_code (here_of env.now) t n) n draft.old draft.new result }
 {
-    let count = tree::number_at(tree, i + 2);
-    let mut j = i + 4;
+    let mut j = i + HEADER;
     let mut m = n;
-    let mut k = 0;
-    while k < count {
-        let r = operated(tree, j, WRITE, text, table, env, draft, m);
-        let Made::At(q) = r else {
-            return r;
-        };
-        m = q;
-        j = tree::after(tree, j);
-        k += 1;
+    for _ in 0..env.tree[i + 2] {
+        m = operated(env, j, Operator::Write, draft, m)?;
+        j = tree::after(env.tree, j);
     }
-    emit(draft, m, OPR, 0, NEW_LINE)
+    emit_oper(draft, m, Operator::NewLine)
+}
+
+// The procedure that the call at i names, which takes as many arguments as it has.
+fn procedure(env: &Env<'_>, i: usize) -> Result<Symbol, Refusal>
+    requires known { Known env.now }
+    requires has_stmt { HasStmt env.now.text.now env.now.tree.now i }
+    requires has_kind { get_or env.now.tree.now i 0 ≡ node_no call_kind }
+    ensures { (f : Name) (es : List Exp) → StmtAt env.now.text.now env.now.tree.now i (call f es) → Called env.now (row_for (here_of env.now) f) es result }
+{
+    let y = named(env, i + HEADER)?;
+    match y.kind {
+        symbols::Kind::Procedure if env.tree[i + 2] - 1 == y.size => Ok(y),
+        symbols::Kind::Procedure => Err(Refusal::WrongArguments),
+        _ => Err(Refusal::WrongKind),
+    }
 }
 
 // The arguments of the call at i.
-fn args(
-    tree: &[u32],
-    i: usize,
-    text: &[u8],
-    table: &[u32],
-    env: Env,
-    draft: &mut [u32],
-    n: usize,
-) -> Made
-    requires ready { Ready text.now table.now env draft.old n }
-    requires has_stmt { HasStmt text.now tree.now i }
-    requires has_kind { get_or tree.now i 0 ≡ node_no call_kind }
-    ensures { (f : Name) (es : List Exp) → StmtAt text.now tree.now i (call f es) → Emits (args_code (here_of text.now table.now env) es n) n draft.old draft.new result }
+fn args(env: &Env<'_>, i: usize, draft: &mut [u32], n: usize) -> Result<usize, Refusal>
+    requires ready { Ready env.now draft.old n }
+    requires has_stmt { HasStmt env.now.text.now env.now.tree.now i }
+    requires has_kind { get_or env.now.tree.now i 0 ≡ node_no call_kind }
+    ensures { (f : Name) (es : List Exp) → StmtAt env.now.text.now env.now.tree.now i (call f es) → Emits (args_code (here_of env.now) es n) n draft.old draft.new result }
 {
-    let count = tree::number_at(tree, i + 2);
-    let mut j = i + 8;
+    let mut j = i + 2 * HEADER;
     let mut m = n;
-    let mut k = 1;
-    while k < count {
-        let r = exp(tree, j, text, table, env, draft, m);
-        let Made::At(q) = r else {
-            return r;
-        };
-        m = q;
-        j = tree::after(tree, j);
-        k += 1;
+    for _ in 1..env.tree[i + 2] {
+        m = exp(env, j, draft, m)?;
+        j = tree::after(env.tree, j);
     }
-    Made::At(m)
+    Ok(m)
 }
 
 // call name(..).
-fn call(
-    tree: &[u32],
-    i: usize,
-    text: &[u8],
-    table: &[u32],
-    env: Env,
-    draft: &mut [u32],
-    n: usize,
-) -> Made
-    requires ready { Ready text.now table.now env draft.old n }
-    requires has_stmt { HasStmt text.now tree.now i }
-    requires has_kind { get_or tree.now i 0 ≡ node_no call_kind }
-    ensures { (t : Stmt) → StmtAt text.now tree.now i t → Emits (stmt_code (here_of text.now table.now env) t n) n draft.old draft.new result }
+fn call(env: &Env<'_>, i: usize, draft: &mut [u32], n: usize) -> Result<usize, Refusal>
+    requires ready { Ready env.now draft.old n }
+    requires has_stmt { HasStmt env.now.text.now env.now.tree.now i }
+    requires has_kind { get_or env.now.tree.now i 0 ≡ node_no call_kind }
+    ensures { (t : Stmt) → StmtAt env.now.text.now env.now.tree.now i t → Emits (stmt_code (here_of env.now) t n) n draft.old draft.new result }
 {
-    let f = lookup(text, table, env, tree[i + 6], tree[i + 7]);
-    let Looked::Row(y) = f else {
-        return Made::Refused(NAME_NOT_FOUND);
-    };
-    if y.kind == CONSTANT {
-        return Made::Refused(WRONG_KIND);
-    }
-    if y.kind == VARIABLE {
-        return Made::Refused(WRONG_KIND);
-    }
-    if tree[i + 2] - 1 != y.size {
-        return Made::Refused(WRONG_ARGUMENTS);
-    }
-    let r = args(tree, i, text, table, env, draft, n);
-    let Made::At(m) = r else {
-        return r;
-    };
-    reach(draft, m, CAL, env.level, y.level, y.low, y.high)
+    let y = procedure(env, i)?;
+    let m = args(env, i, draft, n)?;
+    reach(draft, m, Kind::Cal, env.level, y.level, y.low, y.high)
 }
 
 // A condition, JPC past the statement and one place more, and the statement.
 #[cycle(body_conditional_guarded_looped_statement)]
-fn guarded(
-    tree: &[u32],
-    i: usize,
-    text: &[u8],
-    table: &[u32],
-    env: Env,
-    draft: &mut [u32],
-    n: usize,
-) -> Made
-    requires ready { Ready text.now table.now env draft.old n }
-    requires has_guard { HasGuard text.now tree.now i }
-    ensures { (c : Cond) (t : Stmt) → GuardAt text.now tree.now i c t → Emits ((cond_code (here_of text.now table.now env) c ⨾ jump_over Code.JPC 1 (stmt_code (here_of text.now table.now env) t)) n) n draft.old draft.new result }
+fn guarded(env: &Env<'_>, i: usize, draft: &mut [u32], n: usize) -> Result<usize, Refusal>
+    requires ready { Ready env.now draft.old n }
+    requires has_guard { HasGuard env.now.text.now env.now.tree.now i }
+    ensures { (c : Cond) (t : Stmt) → GuardAt env.now.text.now env.now.tree.now i c t → Emits ((cond_code (here_of env.now) c ⨾ jump_over Code.JPC 1 (stmt_code (here_of env.now) t)) n) n draft.old draft.new result }
 {
-    let a = l_exp(tree, i + 4, text, table, env, draft, n);
-    let Made::At(p) = a else {
-        return a;
-    };
-    let b = emit(draft, p, JPC, 0, 0);
-    let Made::At(m) = b else {
-        return b;
-    };
-    let r = statement(tree, tree::after(tree, i + 4), text, table, env, draft, m);
-    let Made::At(q) = r else {
-        return r;
-    };
+    let p = l_exp(env, i + HEADER, draft, n)?;
+    let m = emit(draft, p, Kind::Jpc, 0, 0)?;
+    let q = statement(env, tree::after(env.tree, i + HEADER), draft, m)?;
     fix(draft, p, q + 1);
-    Made::At(q)
+    Ok(q)
 }
 
 // if .. then .. else ..
 #[cycle(body_conditional_guarded_looped_statement)]
-fn conditional(
-    tree: &[u32],
-    i: usize,
-    text: &[u8],
-    table: &[u32],
-    env: Env,
-    draft: &mut [u32],
-    n: usize,
-) -> Made
-    requires ready { Ready text.now table.now env draft.old n }
-    requires has_stmt { HasStmt text.now tree.now i }
-    requires has_kind { get_or tree.now i 0 ≡ node_no if_kind }
-    ensures { (t : Stmt) → StmtAt text.now tree.now i t → Emits (stmt_code (here_of text.now table.now env) t n) n draft.old draft.new result }
+fn conditional(env: &Env<'_>, i: usize, draft: &mut [u32], n: usize) -> Result<usize, Refusal>
+    requires ready { Ready env.now draft.old n }
+    requires has_stmt { HasStmt env.now.text.now env.now.tree.now i }
+    requires has_kind { get_or env.now.tree.now i 0 ≡ node_no if_kind }
+    ensures { (t : Stmt) → StmtAt env.now.text.now env.now.tree.now i t → Emits (stmt_code (here_of env.now) t n) n draft.old draft.new result }
 {
-    let a = guarded(tree, i, text, table, env, draft, n);
-    let Made::At(p) = a else {
-        return a;
-    };
-    let b = emit(draft, p, JMP, 0, 0);
-    let Made::At(m) = b else {
-        return b;
-    };
-    if tree[i + 2] < 3 {
+    let p = guarded(env, i, draft, n)?;
+    let m = emit(draft, p, Kind::Jmp, 0, 0)?;
+    if env.tree[i + 2] < 3 {
         fix(draft, p, m);
-        return Made::At(m);
+        return Ok(m);
     }
-    let r = statement(
-        tree,
-        tree::after(tree, tree::after(tree, i + 4)),
-        text,
-        table,
-        env,
-        draft,
-        m,
-    );
-    let Made::At(q) = r else {
-        return r;
-    };
+    let other = tree::after(env.tree, tree::after(env.tree, i + HEADER));
+    let q = statement(env, other, draft, m)?;
     fix(draft, p, q);
-    Made::At(q)
+    Ok(q)
 }
 
 // while .. do ..
 #[cycle(body_conditional_guarded_looped_statement)]
-fn looped(
-    tree: &[u32],
-    i: usize,
-    text: &[u8],
-    table: &[u32],
-    env: Env,
-    draft: &mut [u32],
-    n: usize,
-) -> Made
-    requires ready { Ready text.now table.now env draft.old n }
-    requires has_stmt { HasStmt text.now tree.now i }
-    requires has_kind { get_or tree.now i 0 ≡ node_no while_kind }
-    ensures { (t : Stmt) → StmtAt text.now tree.now i t → Emits (stmt_code (here_of text.now table.now env) t n) n draft.old draft.new result }
+fn looped(env: &Env<'_>, i: usize, draft: &mut [u32], n: usize) -> Result<usize, Refusal>
+    requires ready { Ready env.now draft.old n }
+    requires has_stmt { HasStmt env.now.text.now env.now.tree.now i }
+    requires has_kind { get_or env.now.tree.now i 0 ≡ node_no while_kind }
+    ensures { (t : Stmt) → StmtAt env.now.text.now env.now.tree.now i t → Emits (stmt_code (here_of env.now) t n) n draft.old draft.new result }
 {
-    let a = guarded(tree, i, text, table, env, draft, n);
-    let Made::At(p) = a else {
-        return a;
-    };
-    emit(draft, p, JMP, 0, n as u32)
+    let p = guarded(env, i, draft, n)?;
+    emit(draft, p, Kind::Jmp, 0, n as u32)
 }
 
 // begin .. end
 #[cycle(body_conditional_guarded_looped_statement)]
-pub fn body(
-    tree: &[u32],
-    i: usize,
-    text: &[u8],
-    table: &[u32],
-    env: Env,
-    draft: &mut [u32],
-    n: usize,
-) -> Made
-    requires ready { Ready text.now table.now env draft.old n }
-    requires has_stmt { HasStmt text.now tree.now i }
-    requires has_kind { get_or tree.now i 0 ≡ node_no body_kind }
-    ensures { (t : Stmt) → StmtAt text.now tree.now i t → Emits (stmt_code (here_of text.now table.now env) t n) n draft.old draft.new result }
+pub fn body(env: &Env<'_>, i: usize, draft: &mut [u32], n: usize) -> Result<usize, Refusal>
+    requires ready { Ready env.now draft.old n }
+    requires has_stmt { HasStmt env.now.text.now env.now.tree.now i }
+    requires has_kind { get_or env.now.tree.now i 0 ≡ node_no body_kind }
+    ensures { (t : Stmt) → StmtAt env.now.text.now env.now.tree.now i t → Emits (stmt_code (here_of env.now) t n) n draft.old draft.new result }
 {
-    let count = tree::number_at(tree, i + 2);
-    let mut j = i + 4;
+    let mut j = i + HEADER;
     let mut m = n;
-    let mut k = 0;
-    while k < count {
-        let r = statement(tree, j, text, table, env, draft, m);
-        let Made::At(q) = r else {
-            return r;
-        };
-        m = q;
-        j = tree::after(tree, j);
-        k += 1;
+    for _ in 0..env.tree[i + 2] {
+        m = statement(env, j, draft, m)?;
+        j = tree::after(env.tree, j);
     }
-    Made::At(m)
+    Ok(m)
 }
 
 // The statement at i.
 #[cycle(body_conditional_guarded_looped_statement)]
-fn statement(
-    tree: &[u32],
-    i: usize,
-    text: &[u8],
-    table: &[u32],
-    env: Env,
-    draft: &mut [u32],
-    n: usize,
-) -> Made
-    requires ready { Ready text.now table.now env draft.old n }
-    requires has_stmt { HasStmt text.now tree.now i }
-    ensures { (t : Stmt) → StmtAt text.now tree.now i t → Emits (stmt_code (here_of text.now table.now env) t n) n draft.old draft.new result }
+fn statement(env: &Env<'_>, i: usize, draft: &mut [u32], n: usize) -> Result<usize, Refusal>
+    requires ready { Ready env.now draft.old n }
+    requires has_stmt { HasStmt env.now.text.now env.now.tree.now i }
+    ensures { (t : Stmt) → StmtAt env.now.text.now env.now.tree.now i t → Emits (stmt_code (here_of env.now) t n) n draft.old draft.new result }
 {
-    let kind = tree[i];
-    if kind == tree::ASSIGN {
-        return assign(tree, i, text, table, env, draft, n);
+    match tree::kind_at(env.tree, i) {
+        tree::Kind::Assign => assign(env, i, draft, n),
+        tree::Kind::If => conditional(env, i, draft, n),
+        tree::Kind::While => looped(env, i, draft, n),
+        tree::Kind::Call => call(env, i, draft, n),
+        tree::Kind::Body => body(env, i, draft, n),
+        tree::Kind::Read => read(env, i, draft, n),
+        _ => write(env, i, draft, n),
     }
-    if kind == tree::IF {
-        return conditional(tree, i, text, table, env, draft, n);
-    }
-    if kind == tree::WHILE {
-        return looped(tree, i, text, table, env, draft, n);
-    }
-    if kind == tree::CALL {
-        return call(tree, i, text, table, env, draft, n);
-    }
-    if kind == tree::BODY {
-        return body(tree, i, text, table, env, draft, n);
-    }
-    if kind == tree::READ {
-        return read(tree, i, text, table, env, draft, n);
-    }
-    write(tree, i, text, table, env, draft, n)
 }

@@ -80,3 +80,7 @@ module _ {A : Type 0} where
       let n : length (take (to - from) (drop from lent)) ≡ to - from = length-take-le (to - from) (drop from lent) (simp length-drop (omega arith)) in
       let whole : xs ≡ take from lent ++ (replicate (to - from) z ++ drop to lent) = rw (p, e, n, Post-is from to lent h) in
       whole ∙ rw (filling_length from to z lent h l) (sym (append_assoc (take from lent) (replicate (to - from) z) (drop to lent)))
+
+  -- so from the first place on
+  pub filled_front : (to : ℕ) (z : A) (lent : List A) {part xs : List A} → to ≤ length lent → part ≡ replicate (length (take to lent)) z → xs ≡ part ++ drop to lent → xs ≡ onto lent (replicate to z)
+  filled_front to z lent l e p = rw (p, e, length-take-le to lent l, length-replicate to z)

@@ -1,66 +1,34 @@
 -- Laws of rows that are added, and of an entry that is set: the older rows keep their meaning.
 use mathlib.Core.Path.{◌≡◌, refl, sym, ap, ◌∙◌}
 use mathlib.Core.Bool.{Bool, true, false}
-use mathlib.Core.List.{List, [], ◌∷◌, ◌++◌, append_assoc}
+use mathlib.Core.List.{List, [], ◌∷◌, ◌++◌}
 use Prim.Native.Nat.{ℕ, zero, suc, ◌+◌, ◌-◌, ◌*◌, ◌≤◌, ◌<◌}
 use native.Mathlib.Omega.{arith}
 use native.Mathlib.Numerals.{add-one}
+use borrow.Rule.Slice.PartMut.{put_mid}
+use Rattle.std.proofs.lemmas.Slice.{take-put_mid}
 use borrow.Author.Count.{below_more}
 use lib.Dec.{eqb}
 use lib.ListN.{length, take, set, get_or, length-set, get_or-append}
-use lib.Seq.{take-suc-set, length-take-le, get_or-take, get_or-append-add, get_or_at, get_or-set_same, get_or-set_other, ext_get_or}
+use lib.Seq.{length-take-le, get_or-take, get_or-append-add, get_or_at, get_or-set_same, get_or-set_other, ext_get_or}
 use borrow.Author.Tests.{lt-ltb, le-ltb, eqb-true, eqb-false}
 use Rattle.numbers.specs.Limits.{max_rows, row_share}
-use Rattle.numbers.specs.Panel.{name_taken, too_many_rows}
-use Rattle.symbols.specs.declared.Added.{Added}
-use Rattle.symbols.specs.declared.Added.TheVariants.{Used, Refused}
+use Rattle.std.specs.Prelude.{Result, Ok, Err}
+use Rattle.numbers.specs.declared.refusal.Refusal.{Refusal}
+use Rattle.numbers.specs.declared.refusal.Refusal.TheVariants.{NameTaken, TooManyRows}
 use Rattle.symbols.specs.declared.Symbol.{Symbol}
 use Rattle.symbols.specs.Symbols.{procedure, Row, no_row, declared, one_more, fresh}
-use Rattle.symbols.specs.Table.{part, field, offset, extent, hash, first, scope, kind, name_at, scope_at, kind_of, row_at, rows_in, hash_of, value_of, row_of, Named, Linked, Sound, Kept, Declares, Adds, Became, with_value}
-use Rattle.symbols.specs.Steps.{Asked, FirstOf, new, known, numbers_of}
+use Rattle.symbols.specs.Table.{part, field, offset, extent, hash, first, scope, kind, name_at, scope_at, kind_of, kind_for, row_at, rows_in, hash_of, value_of, row_of, Named, Linked, Sound, Kept, Declares, Adds, Became, with_value}
+use Rattle.symbols.specs.Steps.{FirstOf, new, known, numbers_of}
+use Rattle.symbols.specs.ByNumbers.{kind_numbered}
 use Rattle.symbols.specs.Chains.{positive, chain_cons, chain_kept, chain_fuel, name_kept, scope_kept}
 use Rattle.symbols.specs.Kept.{rows_length, sound_kept, rows_kept}
 use Rattle.symbols.proofs.Spelling.{eq_same, same_eq}
 use Rattle.symbols.proofs.Search.{declared_has}
 
-more_put : (l : List ℕ) (i j v : ℕ) → j ≡ i + 1 → i < length l → take j (set l i v) ≡ take i l ++ (v ∷ [])
-more_put l i j v e h = rw (e, add-one) (take-suc-set l i v h)
-
--- a store at the next place, after those that are there
-pub record Laid (l : List ℕ) (u n : ℕ) (vs w : List ℕ) : Type 0 where
-  pub laid : take (u + n) w ≡ take u l ++ vs
-  pub long : length w ≡ length l
-
-pub lay : (l : List ℕ) (u n : ℕ) (vs w : List ℕ) (v : ℕ) → u + n < length l → Laid l u n vs w → Laid l u (n + 1) (vs ++ (v ∷ [])) (set w (u + n) v)
-lay l u n vs w v h p =
-    let e : u + (n + 1) ≡ u + n + 1 = omega arith in
-    record {
-      laid = more_put w (u + n) (u + (n + 1)) v e (omega (arith, p.long)) ∙ ap (λ (x : List ℕ). x ++ (v ∷ [])) p.laid ∙ append_assoc (take u l) vs (v ∷ []);
-      long = length-set w (u + n) v ∙ p.long;
-    }
-
--- a store at the first place
-lay_first : (l : List ℕ) (u v : ℕ) → u < length l → Laid l u 1 (v ∷ []) (set l (u + 0) v)
-lay_first l u v h =
-    let e : u + 0 ≡ u = omega arith in
-    rw e (record { laid = more_put l u (u + 1) v refl h; long = length-set l u v })
-
-pub twelve : (l : List ℕ) (u a b c d e f g h i j k m : ℕ) → u + 12 ≤ length l
-    → take (u + 12) (set (set (set (set (set (set (set (set (set (set (set (set l (u + 0) a) (u + 1) b) (u + 2) c) (u + 3) d) (u + 4) e) (u + 5) f) (u + 6) g) (u + 7) h) (u + 8) i) (u + 9) j) (u + 10) k) (u + 11) m)
-    ≡ take u l ++ (a ∷ b ∷ c ∷ d ∷ e ∷ f ∷ g ∷ h ∷ i ∷ j ∷ k ∷ m ∷ [])
-twelve l u a b c d e f g h i j k m r =
-    let p₁ = lay_first l u a (omega arith) in
-    let p₂ = lay l u 1 _ _ b (omega arith) p₁ in
-    let p₃ = lay l u 2 _ _ c (omega arith) p₂ in
-    let p₄ = lay l u 3 _ _ d (omega arith) p₃ in
-    let p₅ = lay l u 4 _ _ e (omega arith) p₄ in
-    let p₆ = lay l u 5 _ _ f (omega arith) p₅ in
-    let p₇ = lay l u 6 _ _ g (omega arith) p₆ in
-    let p₈ = lay l u 7 _ _ h (omega arith) p₇ in
-    let p₉ = lay l u 8 _ _ i (omega arith) p₈ in
-    let q₁ = lay l u 9 _ _ j (omega arith) p₉ in
-    let q₂ = lay l u 10 _ _ k (omega arith) q₁ in
-    (lay l u 11 _ _ m (omega arith) q₂).laid
+-- a row that is written at u
+pub put_down : (u : ℕ) (xs ws row : List ℕ) → u ≤ length xs → ws ≡ row → length row ≡ 12 → take (u + 12) (put_mid u (u + 12 - u) xs ws) ≡ take u xs ++ row
+put_down u xs ws row h e l = take-put_mid u (u + 12 - u) xs ws (u + 12) (rw e (omega (arith, l))) h ∙ rw e
 
 -- what the first row of the new row's name is good for
 record First (s xs ys : List ℕ) (u : ℕ) (w : List ℕ) (f : ℕ) : Type 0 where
@@ -69,7 +37,7 @@ record First (s xs ys : List ℕ) (u : ℕ) (w : List ℕ) (f : ℕ) : Type 0 wh
   again : first ys f ≡ f
   one : (i : ℕ) → i < u → name_at s xs i ≡ w → first xs i ≡ f
 
-module _ (s xs ys : List ℕ) (u : ℕ) (y : Symbol) (h f : ℕ) (d : Declares s xs u y) (ul : u < max_rows) (q : Asked s y.at y.len h)
+module _ (s xs ys : List ℕ) (u : ℕ) (y : Symbol) (h f : ℕ) (d : Declares s xs u y) (ul : u < max_rows) (q : h ≡ hash_of (part s y.at y.len))
     (long : length ys ≡ length xs) (e : take (12 * u + 12) ys ≡ take (12 * u) xs ++ numbers_of y h f) where
   room : 12 * u + 12 ≤ length xs
   room = omega (arith, d.sound.linked.room)
@@ -98,7 +66,7 @@ module _ (s xs ys : List ℕ) (u : ℕ) (y : Symbol) (h f : ℕ) (d : Declares s
 
   row_new : row_at s ys u ≡ row_of s xs y
   unfolding row_at row_of
-  row_new = rw (name_new, number 5 (omega arith), number 9 (omega arith), number 10 (omega arith), number 6 (omega arith), number 7 (omega arith), number 8 (omega arith), number 4 (omega arith), scope_kept 12 u s xs ys (omega arith) d.sound.linked kept y.scope d.scoped.known)
+  row_new = rw (name_new, number 5 (omega arith), kind_numbered y.kind, number 9 (omega arith), number 10 (omega arith), number 6 (omega arith), number 7 (omega arith), number 8 (omega arith), number 4 (omega arith), scope_kept 12 u s xs ys (omega arith) d.sound.linked kept y.scope d.scoped.known)
 
   rows_new : rows_in s ys (u + 1) ≡ rows_in s xs u ++ (row_of s xs y ∷ [])
   unfolding rows_in
@@ -127,7 +95,7 @@ module _ (s xs ys : List ℕ) (u : ℕ) (y : Symbol) (h f : ℕ) (d : Declares s
         one = λ j m v. d.sound.one j i m l (v ∙ sym t') ∙ sym r;
       }
 
-  module _ (ff : FirstOf s xs u (part s y.at y.len) f) (un : kind_of y.kind ≡ procedure → declared (rows_in s xs u) (part s y.at y.len) (scope_at s xs y.scope) ≡ false) where
+  module _ (ff : FirstOf s xs u (part s y.at y.len) f) (un : kind_for y.kind ≡ procedure → declared (rows_in s xs u) (part s y.at y.len) (scope_at s xs y.scope) ≡ false) where
     linked_new : Linked ys (u + 1)
     linked_new =
         let k = first_is ff in
@@ -143,7 +111,7 @@ module _ (s xs ys : List ℕ) (u : ℕ) (y : Symbol) (h f : ℕ) (d : Declares s
 
     not_beside : (i : ℕ) → i < u → kind_of (kind ys u) ≡ procedure → scope ys i ≡ scope ys u → name_at s ys i ≡ name_at s ys u → ⊥
     not_beside i l k t r =
-        let a = un (ap kind_of (sym (number 5 (omega arith))) ∙ k) in
+        let a = un (sym (kind_numbered y.kind) ∙ ap kind_of (sym (number 5 (omega arith))) ∙ k) in
         let b = declared_has s xs (part s y.at y.len) y.scope i u l (sym (name_old i l) ∙ r ∙ name_new) (sym (kept.at i 4 l (omega arith)) ∙ t ∙ number 4 (omega arith)) in
         let z : ◌≡◌ {A = Bool} true false = sym b ∙ a in
         let n : ◌≡◌ {A = ℕ} 0 1 = cc in omega arith
@@ -158,7 +126,7 @@ module _ (s xs ys : List ℕ) (u : ℕ) (y : Symbol) (h f : ℕ) (d : Declares s
               (rw (number 0 (omega arith), number 1 (omega arith)) d.named);
           hashed = below_more (λ i. hash ys i ≡ hash_of (name_at s ys i)) u
               (λ i l. kept.at i 2 l (omega arith) ∙ d.sound.hashed i l ∙ rw (name_old i l))
-              (number 2 (omega arith) ∙ q.is ∙ rw name_new);
+              (number 2 (omega arith) ∙ q ∙ rw name_new);
           same = below_more (λ i. name_at s ys (first ys i) ≡ name_at s ys i) u
               (λ i l. let b = d.sound.linked.before i l in rw (kept.at i 3 l (omega arith)) (name_old (first xs i) (omega (arith, b)) ∙ d.sound.same i l ∙ sym (name_old i l)))
               (rw (number 3 (omega arith)) k.same);
@@ -197,7 +165,7 @@ module _ (s xs ys : List ℕ) (u : ℕ) (y : Symbol) (h f : ℕ) (d : Declares s
               i l;
         }
 
-    pub add_made : Adds (one_more (rows_in s xs u) (row_of s xs y)) s xs u y ys (Used (u + 1))
+    pub add_made : Adds (one_more (rows_in s xs u) (row_of s xs y)) s xs u y ys (Ok (u + 1))
     unfolding Adds one_more
     add_made = record {
       one = refl;
@@ -208,12 +176,12 @@ module _ (s xs ys : List ℕ) (u : ℕ) (y : Symbol) (h f : ℕ) (d : Declares s
       new_scope = scope_new;
     }
 
-pub add_full : (s xs ys : List ℕ) (u : ℕ) (y : Symbol) (r : Row) → max_rows ≤ u → Adds (one_more (rows_in s xs u) r) s xs u y ys (Refused too_many_rows)
+pub add_full : (s xs ys : List ℕ) (u : ℕ) (y : Symbol) (r : Row) → max_rows ≤ u → Adds (one_more (rows_in s xs u) r) s xs u y ys (Err TooManyRows)
 unfolding Adds one_more
 add_full s xs ys u y r h = rw (le-ltb (length (rows_in s xs u)) max_rows (omega (arith, rows_length s xs u)), one_more)
 
 module _ (s xs ys : List ℕ) (u : ℕ) (y : Symbol) (b : Bool) (eb : b ≡ declared (rows_in s xs u) (part s y.at y.len) (scope_at s xs y.scope)) where
-  pub fresh_not : b ≡ true → Adds (fresh (rows_in s xs u) (row_of s xs y)) s xs u y ys (Refused name_taken)
+  pub fresh_not : b ≡ true → Adds (fresh (rows_in s xs u) (row_of s xs y)) s xs u y ys (Err NameTaken)
   unfolding Adds fresh row_of
   fresh_not t = let q : declared (rows_in s xs u) (part s y.at y.len) (scope_at s xs y.scope) ≡ true = sym eb ∙ t in rw (q, fresh)
 
@@ -221,7 +189,7 @@ module _ (s xs ys : List ℕ) (u : ℕ) (y : Symbol) (b : Bool) (eb : b ≡ decl
   unfolding fresh row_of
   fresh_is t = let q : declared (rows_in s xs u) (part s y.at y.len) (scope_at s xs y.scope) ≡ false = sym eb ∙ t in rw (q, fresh)
 
-  pub fresh_on : (r : Added) → b ≡ false → Adds (one_more (rows_in s xs u) (row_of s xs y)) s xs u y ys r → Adds (fresh (rows_in s xs u) (row_of s xs y)) s xs u y ys r
+  pub fresh_on : (r : Result ℕ Refusal) → b ≡ false → Adds (one_more (rows_in s xs u) (row_of s xs y)) s xs u y ys r → Adds (fresh (rows_in s xs u) (row_of s xs y)) s xs u y ys r
   fresh_on r t h = rw (fresh_is t) h
 
 -- an entry that is set

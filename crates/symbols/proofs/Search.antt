@@ -1,21 +1,16 @@
 -- Laws of the search for a row: the newest that is seen, a name in one scope, the first row of a name.
-use mathlib.Core.Path.{◌≡◌, refl, sym, ap, ◌∙◌}
-use mathlib.Core.Bool.{Bool, true, false, ◌&&◌}
-use mathlib.Core.List.{List, [], ◌∷◌, ◌++◌}
-use mathlib.Core.Option.{Option, none, some}
-use Prim.Native.Nat.{ℕ, zero, suc, ◌+◌, ◌-◌, ◌≤◌, ◌<◌}
-use native.Mathlib.Omega.{arith}
-use lib.Dec.{eqb}
-use lib.ListN.{length}
-use borrow.Author.Tests.{eq-eqb, ne_eqb, eqb-true, eqb-false}
+use Rattle.std.proofs.Common.{◌≡◌, refl, sym, ap, ◌∙◌, Bool, true, false, ◌&&◌, List, [], ◌∷◌, ◌++◌, ℕ, zero, suc, ◌-◌, ◌≤◌, ◌<◌, arith, eqb, eq-eqb, eqb-true}
+use borrow.Author.Tests.{eqb-false}
+use Rattle.std.specs.Prelude.{Option as Found, Some, None, is_some}
+use Rattle.std.proofs.Math.Option.{Option, none, some}
 use Rattle.numbers.specs.Limits.{max_rows}
 use Rattle.numbers.specs.Bytes.{bytes, eq_list}
-use Rattle.symbols.specs.declared.Found.TheVariants.{At, Nothing}
 use Rattle.symbols.specs.Symbols.{procedure, Scope, Row, is_in, all_in, same_scope, find_in, find, declared}
 use Rattle.symbols.specs.Table.{part, offset, extent, hash, first, scope, kind, name_at, chain, scope_at, kind_of, row_at, rows_in, hash_of, is_hash, firsts, among, all_among, is_open, Sound, Scoped, Seen, Finds}
-use Rattle.symbols.specs.Steps.{Legible, Asked, FirstOf, new, known}
-use Rattle.symbols.specs.Chains.{positive, chain_end, chain_cons, chain_step, firsts_end, firsts_cons}
-use Rattle.symbols.proofs.Spelling.{eq_same, same_eq, hash_differs}
+use Rattle.symbols.specs.Steps.{Legible, Newest, found, nowhere, FirstOf, new, known}
+use Rattle.symbols.specs.Chains.{chain_end, chain_cons, chain_step, firsts_end, firsts_cons}
+use lib.Pointwise.{pointwise}
+use Rattle.symbols.proofs.Spelling.{compared, eq_same, same_eq, hash_differs}
 
 -- two tests that follow from each other
 pub bool_iff : (a b : Bool) → (a ≡ true → b ≡ true) → (b ≡ true → a ≡ true) → a ≡ b
@@ -23,53 +18,19 @@ bool_iff true b f g = sym (f refl)
 bool_iff false true f g = g refl
 bool_iff false false f g = refl
 
-and_false : (a b : Bool) → b ≡ false → false ≡ (a && b)
-and_false true b e = sym e
-and_false false b e = refl
-
-and_true : (a b : Bool) → b ≡ true → a ≡ (a && b)
-and_true true b e = sym e
-and_true false b e = refl
-
 or : (b r : Bool) → r ≡ true → elim b [ true ↦ true | false ↦ r ] ≡ true
 or true r h = refl
 or false r h = h
 
--- a name that is asked for
-pub asked : (s : List ℕ) (a n b m h : ℕ) → b ≡ a → m ≡ n → a + n ≤ length s → h ≡ hash_of (part s b m) → Asked s a n h
-asked s a n b m h e f l q = record { lies = l; is = q ∙ rw (e, f) }
+-- whether a row has the name w
+module _ (s xs : List ℕ) (k : ℕ) (w : List ℕ) (h : ℕ) (l : Legible s xs k) (q : h ≡ hash_of w) where
+  pub name_differs : (hash xs k ≡ h → ⊥) → false ≡ eq_list (name_at s xs k) w
+  name_differs d = hash_differs (name_at s xs k) w (hash xs k) h l.hashed q d
 
--- a row that can be read
-pub legible : (s xs : List ℕ) (used k : ℕ) → Sound s xs used → k < used → Legible s xs k
-legible s xs used k g h = record {
-  room = omega (arith, g.linked.most, g.linked.room);
-  lies = (g.named k h).lies;
-  hashed = g.hashed k h;
-  older = g.linked.older k h;
-}
-
-module _ (s xs : List ℕ) (k a n h : ℕ) (l : Legible s xs k) (q : Asked s a n h) where
-  pub name_differs : (hash xs k ≡ h → ⊥) → false ≡ eq_list (name_at s xs k) (part s a n)
-  name_differs d = hash_differs (name_at s xs k) (part s a n) (hash xs k) h l.hashed q.is d
-
-  pub name_compared : (o e b m : ℕ) (r : Bool) → o ≡ offset xs k → e ≡ extent xs k → b ≡ a → m ≡ n → r ≡ eq_list (part s o e) (part s b m) → r ≡ eq_list (name_at s xs k) (part s a n)
-  unfolding name_at
-  name_compared o e b m r p₁ p₂ p₃ p₄ t = t ∙ rw (p₁, p₂, p₃, p₄)
-
-  pub seen_not : (hash xs k ≡ h → ⊥) → (b : Bool) → false ≡ (eq_list (name_at s xs k) (part s a n) && b)
-  seen_not d b = rw (sym (name_differs d))
-
-  pub seen_closed : (b c : Bool) → b ≡ c → b ≡ false → false ≡ (eq_list (name_at s xs k) (part s a n) && c)
-  seen_closed b c e t = and_false (eq_list (name_at s xs k) (part s a n)) c (sym e ∙ t)
-
-  pub seen_open : (r b c : Bool) → b ≡ c → b ≡ true → r ≡ eq_list (name_at s xs k) (part s a n) → r ≡ (eq_list (name_at s xs k) (part s a n) && c)
-  seen_open r b c e t q = q ∙ and_true (eq_list (name_at s xs k) (part s a n)) c (sym e ∙ t)
-
-  pub beside_not : (p : ℕ) → (scope xs k ≡ p → ⊥) → false ≡ (eq_list (name_at s xs k) (part s a n) && eqb (scope xs k) p)
-  beside_not p d = and_false (eq_list (name_at s xs k) (part s a n)) (eqb (scope xs k) p) (ne_eqb (scope xs k) p d)
-
-  pub beside_is : (r : Bool) (p : ℕ) → scope xs k ≡ p → r ≡ eq_list (name_at s xs k) (part s a n) → r ≡ (eq_list (name_at s xs k) (part s a n) && eqb (scope xs k) p)
-  beside_is r p e q = q ∙ and_true (eq_list (name_at s xs k) (part s a n)) (eqb (scope xs k) p) (eq-eqb (scope xs k) p e)
+-- two names that are compared
+pub name_compared : (s xs : List ℕ) (k : ℕ) (u w : List ℕ) (r : Bool) → u ≡ part s (offset xs k) (extent xs k) → r ≡ pointwise eqb u w → r ≡ eq_list (name_at s xs k) w
+unfolding name_at
+name_compared s xs k u w r e q = q ∙ compared u w ∙ rw e
 
 -- the newest row that passes
 swap : {A : Type 0} (a b : Bool) (y p q : A)
@@ -110,11 +71,6 @@ unfolding same_scope
 list_itself [] = refl
 list_itself (w ∷ l) = rw (same_eq w w refl, same_scope) (list_itself l)
 
-rows_more : (s xs : List ℕ) (k : ℕ) → (k ≡ 0 → ⊥) → rows_in s xs k ≡ rows_in s xs (k - 1) ++ (row_at s xs (k - 1) ∷ [])
-unfolding rows_in
-rows_more s xs zero n = absurd (n refl)
-rows_more s xs (suc k) n = let e : suc k - 1 ≡ k = omega arith in rw e
-
 -- a row of that name in that scope
 pub declared_has : (s xs : List ℕ) (w : List ℕ) (p i k : ℕ) → i < k → name_at s xs i ≡ w → scope xs i ≡ p → declared (rows_in s xs k) w (scope_at s xs p) ≡ true
 unfolding rows_in row_at
@@ -133,20 +89,22 @@ declared_has s xs w p i (suc k) h e q =
         let z = eqb-false i k (sym t) in
         or (eq_list (name_at s xs k) w && same_scope (scope_at s xs (scope xs k)) (scope_at s xs p)) r (f (omega (arith, z)))
 
--- how far the search for the newest row has come
-pub record Searched (s xs : List ℕ) (k : ℕ) (w : List ℕ) (i : ℕ) : Type 0 where
-  pub below : i ≤ k
-  pub is : (p : ℕ) → Seen xs k p → find (rows_in s xs k) w (scope_at s xs p) ≡ find (rows_in s xs i) w (scope_at s xs p)
+-- what each step from k down to i leaves as it is
+back : {A : Type 0} (f : ℕ → A) (k i : ℕ) → i ≤ k → ((j : ℕ) → i ≤ j → j < k → f (suc j) ≡ f j) → f k ≡ f i
+back f zero i h g = let e : i ≡ 0 = omega arith in rw e
+back f (suc k) i h g = by (eqb i (suc k)) refl (λ l. back f k i l (λ j a b. g j a (omega arith)))
+  where
+    by : (b : Bool) → b ≡ eqb i (suc k) → (i ≤ k → f k ≡ f i) → f (suc k) ≡ f i
+    by true e r = ap f (sym (eqb-true i (suc k) (sym e)))
+    by false e r = let n = eqb-false i (suc k) (sym e) in g k (omega (arith, n)) (omega arith) ∙ r (omega (arith, n))
 
--- the same for a declaration in the scope p
-pub record Looked (s xs : List ℕ) (k : ℕ) (w : List ℕ) (p i : ℕ) : Type 0 where
-  pub below : i ≤ k
-  pub is : declared (rows_in s xs k) w (scope_at s xs p) ≡ declared (rows_in s xs i) w (scope_at s xs p)
+-- the newest row by what a test's answers are
+abbrev pub Passes : (ℕ → Bool) → ℕ → Bool → Type 0
+Passes t j b = b ≡ t j
 
--- none of the rows from i on has the name
-pub record Unlike (s xs : List ℕ) (k : ℕ) (w : List ℕ) (i : ℕ) : Type 0 where
-  pub below : i ≤ k
-  pub unlike : (j : ℕ) → i ≤ j → j < k → eq_list (name_at s xs j) w ≡ false
+pub newest_by : {P : ℕ → Bool → Type 0} (t : ℕ → Bool) {k : ℕ} {r : Found ℕ} → ((j : ℕ) (b : Bool) → P j b → b ≡ t j) → Newest P k r → Newest (Passes t) k r
+newest_by t f (found {i} h p n) = found h (f i true p) (λ j a b. f j false (n j a b))
+newest_by t f (nowhere n) = nowhere (λ j a. f j false (n j a))
 
 -- names are compared by their first rows
 module _ (s xs : List ℕ) (k : ℕ) (g : Sound s xs k) where
@@ -250,66 +208,48 @@ module _ (s xs : List ℕ) (k : ℕ) (g : Sound s xs k) where
       (λ t. rw (eqb-true q p t) (list_itself (chain max_rows s xs p)))
       (λ t. eq-eqb q p (lists_same max_rows q max_rows p (omega (arith, g.linked.most, u.known)) (omega (arith, g.linked.most, v.known)) u v t))
 
-  pub search_start : (w : List ℕ) → Searched s xs k w k
-  search_start w = record { below = omega arith; is = λ p v. refl }
+  module _ (w : List ℕ) where
+    abbrev pub seen_at : ℕ → Bool
+    seen_at j = eq_list (name_at s xs j) w && is_open xs (scope xs j)
 
-  pub search_end : (w : List ℕ) (i : ℕ) → i ≡ 0 → Searched s xs k w i → (p : ℕ) → Seen xs k p → Finds s xs k Nothing (find (rows_in s xs k) w (scope_at s xs p))
-  unfolding Finds rows_in find find_in
-  search_end w i e c p v = c.is p v ∙ rw e
+    find_step : (p : ℕ) → Seen xs k p → (j : ℕ) → j < k → find (rows_in s xs (suc j)) w (scope_at s xs p) ≡ elim (seen_at j) [ true ↦ some (row_at s xs j) | false ↦ find (rows_in s xs j) w (scope_at s xs p) ]
+    unfolding find rows_in row_at
+    find_step p v j h =
+        let o = g.linked.older j h in
+        find_more w (scope_at s xs p) (rows_in s xs j) (row_at s xs j) none
+        ∙ ap (λ (t : Bool). elim (eq_list (name_at s xs j) w && t) [ true ↦ some (row_at s xs j) | false ↦ find (rows_in s xs j) w (scope_at s xs p) ]) (sym (sees p (scope xs j) v (omega (arith, o))))
 
-  module _ (w : List ℕ) (i : ℕ) (n : i ≡ 0 → ⊥) (c : Searched s xs k w i) (b : Bool) (eb : b ≡ (eq_list (name_at s xs (i - 1)) w && is_open xs (scope xs (i - 1)))) where
-    here : i - 1 < k
-    here = omega (arith, positive i n, c.below)
+    find_skip : (p : ℕ) → Seen xs k p → (i : ℕ) → i ≤ k → ((j : ℕ) → i ≤ j → j < k → false ≡ seen_at j) → find (rows_in s xs k) w (scope_at s xs p) ≡ find (rows_in s xs i) w (scope_at s xs p)
+    find_skip p v i h f = back (λ m. find (rows_in s xs m) w (scope_at s xs p)) k i h (λ j a b. find_step p v j b ∙ rw (← f j a b))
 
-    step : (p : ℕ) → Seen xs k p → find (rows_in s xs k) w (scope_at s xs p) ≡ elim b [ true ↦ some (row_at s xs (i - 1)) | false ↦ find (rows_in s xs (i - 1)) w (scope_at s xs p) ]
-    unfolding find row_at
-    step p v =
-        let o = g.linked.older (i - 1) here in
-        c.is p v ∙ ap (λ (l : List Row). find l w (scope_at s xs p)) (rows_more s xs i n) ∙ find_more w (scope_at s xs p) (rows_in s xs (i - 1)) (row_at s xs (i - 1)) none
-        ∙ ap (λ (t : Bool). elim (eq_list (name_at s xs (i - 1)) w && t) [ true ↦ some (row_at s xs (i - 1)) | false ↦ find (rows_in s xs (i - 1)) w (scope_at s xs p) ]) (sym (sees p (scope xs (i - 1)) v (omega (arith, o, here))))
-        ∙ ap (λ (t : Bool). elim t [ true ↦ some (row_at s xs (i - 1)) | false ↦ find (rows_in s xs (i - 1)) w (scope_at s xs p) ]) (sym eb)
+    pub search_found : {r : Found ℕ} → Newest (Passes seen_at) k r → (p : ℕ) → Seen xs k p → Finds s xs k r (find (rows_in s xs k) w (scope_at s xs p))
+    unfolding Finds rows_in find find_in
+    search_found (found {i} h t n) p v = record { below = h; is = find_skip p v (suc i) h (λ j a b. n j a b) ∙ find_step p v i h ∙ rw (← t) }
+    search_found (nowhere n) p v = find_skip p v 0 (omega arith) (λ j a b. n j b)
 
-    pub search_hit : b ≡ true → (p : ℕ) → Seen xs k p → Finds s xs k (At (i - 1)) (find (rows_in s xs k) w (scope_at s xs p))
-    unfolding Finds
-    search_hit t p v = record { below = here; is = step p v ∙ rw t }
+    module _ (p : ℕ) (v : Scoped xs k p) where
+      abbrev pub beside_at : ℕ → Bool
+      beside_at j = eq_list (name_at s xs j) w && eqb (scope xs j) p
 
-    pub search_more : b ≡ false → Searched s xs k w (i - 1)
-    search_more t = record { below = omega (arith, c.below); is = λ p v. step p v ∙ rw t }
+      declared_step : (j : ℕ) → j < k → declared (rows_in s xs (suc j)) w (scope_at s xs p) ≡ elim (beside_at j) [ true ↦ true | false ↦ declared (rows_in s xs j) w (scope_at s xs p) ]
+      unfolding rows_in row_at
+      declared_step j h =
+          declared_more w (scope_at s xs p) (rows_in s xs j) (row_at s xs j)
+          ∙ ap (λ (t : Bool). elim (eq_list (name_at s xs j) w && t) [ true ↦ true | false ↦ declared (rows_in s xs j) w (scope_at s xs p) ]) (sym (same_scopes (scope xs j) p (row_scoped j h) v))
 
-  pub look_start : (w : List ℕ) (p : ℕ) → Looked s xs k w p k
-  look_start w p = record { below = omega arith; is = refl }
+      declared_skip : (i : ℕ) → i ≤ k → ((j : ℕ) → i ≤ j → j < k → false ≡ beside_at j) → declared (rows_in s xs k) w (scope_at s xs p) ≡ declared (rows_in s xs i) w (scope_at s xs p)
+      declared_skip i h f = back (λ m. declared (rows_in s xs m) w (scope_at s xs p)) k i h (λ j a b. declared_step j b ∙ rw (← f j a b))
 
-  pub look_end : (w : List ℕ) (p i : ℕ) → i ≡ 0 → Looked s xs k w p i → false ≡ declared (rows_in s xs k) w (scope_at s xs p)
-  unfolding rows_in declared
-  look_end w p i e c = sym (c.is ∙ rw e)
+      pub look_found : {r : Found ℕ} → Newest (Passes beside_at) k r → is_some r ≡ declared (rows_in s xs k) w (scope_at s xs p)
+      unfolding rows_in declared
+      look_found (found {i} h t n) = sym (declared_skip (suc i) h (λ j a b. n j a b) ∙ declared_step i h ∙ rw (← t))
+      look_found (nowhere n) = sym (declared_skip 0 (omega arith) (λ j a b. n j b))
 
-  module _ (w : List ℕ) (p i : ℕ) (v : Scoped xs k p) (n : i ≡ 0 → ⊥) (c : Looked s xs k w p i) (b : Bool) (eb : b ≡ (eq_list (name_at s xs (i - 1)) w && eqb (scope xs (i - 1)) p)) where
-    looked : declared (rows_in s xs k) w (scope_at s xs p) ≡ elim b [ true ↦ true | false ↦ declared (rows_in s xs (i - 1)) w (scope_at s xs p) ]
-    unfolding row_at
-    looked =
-        c.is ∙ ap (λ (l : List Row). declared l w (scope_at s xs p)) (rows_more s xs i n) ∙ declared_more w (scope_at s xs p) (rows_in s xs (i - 1)) (row_at s xs (i - 1))
-        ∙ ap (λ (t : Bool). elim (eq_list (name_at s xs (i - 1)) w && t) [ true ↦ true | false ↦ declared (rows_in s xs (i - 1)) w (scope_at s xs p) ]) (sym (same_scopes (scope xs (i - 1)) p (row_scoped (i - 1) (omega (arith, positive i n, c.below))) v))
-        ∙ ap (λ (t : Bool). elim t [ true ↦ true | false ↦ declared (rows_in s xs (i - 1)) w (scope_at s xs p) ]) (sym eb)
+    abbrev pub named_at : ℕ → Bool
+    named_at j = eq_list (name_at s xs j) w
 
-    pub look_hit : b ≡ true → true ≡ declared (rows_in s xs k) w (scope_at s xs p)
-    look_hit t = sym (looked ∙ rw t)
+    pub first_known : (i : ℕ) → Newest (Passes named_at) k (Some i) → FirstOf s xs k w (first xs i)
+    first_known i (found h t n) = known i refl h (sym t)
 
-    pub look_more : b ≡ false → Looked s xs k w p (i - 1)
-    look_more t = record { below = omega (arith, c.below); is = looked ∙ rw t }
-
-  pub first_start : (w : List ℕ) → Unlike s xs k w k
-  first_start w = record { below = omega arith; unlike = λ j h l. absurd (omega arith) }
-
-  pub first_end : (w : List ℕ) (i : ℕ) → i ≡ 0 → Unlike s xs k w i → FirstOf s xs k w k
-  first_end w i e c = new refl (λ j l. c.unlike j (omega arith) l)
-
-  module _ (w : List ℕ) (i : ℕ) (n : i ≡ 0 → ⊥) (c : Unlike s xs k w i) (b : Bool) (eb : b ≡ eq_list (name_at s xs (i - 1)) w) where
-    pub first_hit : b ≡ true → FirstOf s xs k w (first xs (i - 1))
-    first_hit t = known (i - 1) refl (omega (arith, positive i n, c.below)) (sym eb ∙ t)
-
-    last : (j : ℕ) → i - 1 ≤ j → j < k → b ≡ false → (d : Bool) → d ≡ eqb j (i - 1) → eq_list (name_at s xs j) w ≡ false
-    last j h l t true e = rw (eqb-true j (i - 1) (sym e)) (sym eb ∙ t)
-    last j h l t false e = let d = eqb-false j (i - 1) (sym e) in c.unlike j (omega (arith, d, positive i n)) l
-
-    pub first_more : b ≡ false → Unlike s xs k w (i - 1)
-    first_more t = record { below = omega (arith, c.below); unlike = λ j h l. last j h l t (eqb j (i - 1)) refl }
+    pub first_new : Newest (Passes named_at) k None → FirstOf s xs k w k
+    first_new (nowhere n) = new refl (λ j h. sym (n j h))

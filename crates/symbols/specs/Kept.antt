@@ -9,7 +9,8 @@ use Rattle.numbers.specs.Limits.{table_places}
 use Rattle.numbers.specs.Bytes.{bytes, eq_list, is_letter}
 use Rattle.symbols.specs.declared.Symbol.{Symbol}
 use Rattle.symbols.specs.Symbols.{procedure, Rows}
-use Rattle.symbols.specs.Table.{part, first, scope, name_at, kind_of, row_at, rows_in, is_hash, Named, Linked, Sound, Scoped, Kept, Grown}
+use Rattle.symbols.specs.ByNumbers.{kind_numbered}
+use Rattle.symbols.specs.Table.{part, first, scope, name_at, kind_of, kind_for, row_at, rows_in, is_hash, Named, Linked, Sound, Scoped, Kept, Grown}
 use Rattle.symbols.specs.Chains.{positive, name_kept, scope_kept}
 
 -- no rows
@@ -91,10 +92,10 @@ scoped_kept n k m xs ys p e l kp w = record {
 }
 
 -- the scope of a procedure that was just declared
-pub scoped_new : (o : Rows) (s xs : List ℕ) (k : ℕ) (y : Symbol) (ys : List ℕ) (m : ℕ) → kind_of y.kind ≡ procedure → Grown o s xs k y ys m → Scoped ys m m
+pub scoped_new : (o : Rows) (s xs : List ℕ) (k : ℕ) (y : Symbol) (ys : List ℕ) (m : ℕ) → kind_for y.kind ≡ procedure → Grown o s xs k y ys m → Scoped ys m m
 scoped_new o s xs k y ys m e w =
     let q : m - 1 ≡ k = omega (arith, w.one) in
-    record { known = omega arith; owner = λ z. rw (q, w.new_kind) e }
+    record { known = omega arith; owner = λ z. rw (q, w.new_kind) (kind_numbered y.kind ∙ e) }
 
 -- one change after another
 pub kept_on : (n k a b m : ℕ) (xs ys zs : List ℕ) → n ≤ a → n ≤ b → k ≤ m → Kept a k xs ys → Kept b m ys zs → Kept n k xs zs

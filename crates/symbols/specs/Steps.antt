@@ -1,9 +1,9 @@
 -- What the parts of the search and of `see` promise each other.
-use Rattle.std.specs.Prelude.{◌≡◌, Bool, true, false, not, List, [], ◌∷◌, ℕ, ◌+◌, ◌*◌, ◌≤◌, ◌<◌, eqb, length}
+use Rattle.std.specs.Prelude.{◌≡◌, Bool, true, false, not, List, [], ◌∷◌, ℕ, ◌+◌, ◌*◌, ◌≤◌, ◌<◌, eqb, length, Option, Some, None}
 use Rattle.numbers.specs.Limits.{max_rows, row_share}
 use Rattle.numbers.specs.Bytes.{eq_list}
 use Rattle.symbols.specs.declared.Symbol.{Symbol}
-use Rattle.symbols.specs.Table.{part, offset, extent, hash, first, scope, sight, name_at, hash_of, firsts, among, is_open, Kept}
+use Rattle.symbols.specs.Table.{offset, extent, hash, first, scope, sight, name_at, kind_number, hash_of, firsts, among, is_open, Kept}
 
 -- row k can be read
 pub record Legible (s xs : List ℕ) (k : ℕ) : Type 0 where
@@ -12,10 +12,10 @@ pub record Legible (s xs : List ℕ) (k : ℕ) : Type 0 where
   pub hashed : hash xs k ≡ hash_of (name_at s xs k)
   pub older : scope xs k ≤ k
 
--- a name that is asked for, and its hash
-pub record Asked (s : List ℕ) (a n h : ℕ) : Type 0 where
-  pub lies : a + n ≤ length s
-  pub is : h ≡ hash_of (part s a n)
+-- the newest of k rows that passes a test, whose answers are those of P
+pub data Newest (P : ℕ → Bool → Type 0) (k : ℕ) : Option ℕ → Type 0 where
+  found : {i : ℕ} → i < k → P i true → ((j : ℕ) → i < j → j < k → P j false) → Newest P k (Some i)
+  nowhere : ((j : ℕ) → j < k → P j false) → Newest P k None
 
 -- the first row of a name, where the next row is k: k itself if no row has it
 pub data FirstOf (s xs : List ℕ) (k : ℕ) (w : List ℕ) (f : ℕ) : Type 0 where
@@ -24,7 +24,7 @@ pub data FirstOf (s xs : List ℕ) (k : ℕ) (w : List ℕ) (f : ℕ) : Type 0 w
 
 -- a row's twelve numbers
 abbrev pub numbers_of : Symbol → ℕ → ℕ → List ℕ
-numbers_of y h f = y.at ∷ y.len ∷ h ∷ f ∷ y.scope ∷ y.kind ∷ y.level ∷ y.address ∷ y.size ∷ y.low ∷ y.high ∷ 0 ∷ []
+numbers_of y h f = y.at ∷ y.len ∷ h ∷ f ∷ y.scope ∷ kind_number y.kind ∷ y.level ∷ y.address ∷ y.size ∷ y.low ∷ y.high ∷ 0 ∷ []
 
 -- all numbers but sights are as they were
 abbrev pub Plain : List ℕ → List ℕ → Type 0

@@ -1,12 +1,12 @@
 -- Symbol rows as numbers in the lent table, twelve to a row, oldest first: what they mean, and when they are sound.
-use Rattle.std.specs.Prelude.{◌≡◌, Bool, true, false, List, [], ◌∷◌, ◌++◌, ℕ, zero, suc, ◌+◌, ◌-◌, ◌*◌, ◌%◌, ◌≤◌, ◌<◌, eqb, length, take, drop, get_or, set}
+use Rattle.std.specs.Prelude.{◌≡◌, Bool, true, false, List, [], ◌∷◌, ◌++◌, ℕ, zero, suc, ◌+◌, ◌-◌, ◌*◌, ◌%◌, ◌≤◌, ◌<◌, eqb, length, take, drop, get_or, set, Option as Found, Some, None, Result, Ok, Err}
 use Rattle.std.proofs.Math.Option.{Option, none, some}
 use Rattle.numbers.specs.Limits.{max_rows, row_share, table_places}
 use Rattle.numbers.specs.Bytes.{bytes, eq_list}
-use Rattle.symbols.specs.declared.Found.{Found}
-use Rattle.symbols.specs.declared.Found.TheVariants.{At, Nothing}
-use Rattle.symbols.specs.declared.Added.{Added}
-use Rattle.symbols.specs.declared.Added.TheVariants.{Used, Refused}
+use Rattle.numbers.specs.declared.refusal.Refusal.{Refusal}
+use Rattle.numbers.specs.Refusals.{number_of}
+use Rattle.symbols.specs.declared.Kind.{Kind as CodeKind}
+use Rattle.symbols.specs.declared.Kind.TheVariants.{Constant, Variable, Procedure}
 use Rattle.symbols.specs.declared.Symbol.{Symbol}
 use Rattle.symbols.specs.Symbols.{Kind, const, var, procedure, Scope, main_scope, Row, no_row, Rows, rows, refuse_rows}
 
@@ -62,6 +62,22 @@ scope_at s xs p = chain max_rows s xs p
 -- the Rust's numbers of the kinds: Const 1, Var 2, Proc 3
 unfoldable pub kind_of : ℕ → Kind
 kind_of n = elim (eqb n 1) [ true ↦ const | false ↦ elim (eqb n 2) [ true ↦ var | false ↦ procedure ] ]
+
+-- the kind that the code's stands for
+abbrev pub kind_for : CodeKind → Kind
+kind_for Constant = const
+kind_for Variable = var
+kind_for Procedure = procedure
+
+-- its number
+abbrev pub kind_number : CodeKind → ℕ
+kind_number Constant = 1
+kind_number Variable = 2
+kind_number Procedure = 3
+
+-- the code's kind of a number
+abbrev pub coded : ℕ → CodeKind
+coded n = elim (eqb n 1) [ true ↦ Constant | false ↦ elim (eqb n 2) [ true ↦ Variable | false ↦ Procedure ] ]
 
 -- a value by its halves
 abbrev pub value_of : ℕ → ℕ → ℕ
@@ -161,15 +177,15 @@ pub record Hit (s xs : List ℕ) (k i : ℕ) (o : Option Row) : Type 0 where
   pub is : o ≡ some (row_at s xs i)
 
 -- what is found, as the definition has it
-unfoldable pub Finds : List ℕ → List ℕ → ℕ → Found → Option Row → Type 0
-Finds s xs k (At i) o = Hit s xs k i o
-Finds s xs k Nothing o = o ≡ none
+unfoldable pub Finds : List ℕ → List ℕ → ℕ → Found ℕ → Option Row → Type 0
+Finds s xs k (Some i) o = Hit s xs k i o
+Finds s xs k None o = o ≡ none
 
 -- a row by what is declared, in the scope that its number stands for
 unfoldable pub row_of : List ℕ → List ℕ → Symbol → Row
 row_of s xs y = record {
   name = part s y.at y.len;
-  kind = kind_of y.kind;
+  kind = kind_for y.kind;
   value = value_of y.low y.high;
   level = y.level;
   addr = y.address;
@@ -183,13 +199,13 @@ pub record Grown (o : Rows) (s xs : List ℕ) (k : ℕ) (y : Symbol) (ys : List 
   pub is : o ≡ rows (rows_in s ys m)
   pub sound : Sound s ys m
   pub kept : Kept row_share k xs ys
-  pub new_kind : kind ys k ≡ y.kind
+  pub new_kind : kind ys k ≡ kind_number y.kind
   pub new_scope : scope_at s ys m ≡ part s y.at y.len ∷ scope_at s xs y.scope
 
 -- what a declaration gives, as the definition has it
-unfoldable pub Adds : Rows → List ℕ → List ℕ → ℕ → Symbol → List ℕ → Added → Type 0
-Adds o s xs k y ys (Used m) = Grown o s xs k y ys m
-Adds o s xs k y ys (Refused e) = o ≡ refuse_rows e
+unfoldable pub Adds : Rows → List ℕ → List ℕ → ℕ → Symbol → List ℕ → Result ℕ Refusal → Type 0
+Adds o s xs k y ys (Ok m) = Grown o s xs k y ys m
+Adds o s xs k y ys (Err e) = o ≡ refuse_rows (number_of e)
 
 -- the row at i now has the value v
 abbrev pub with_value : List Row → ℕ → ℕ → List Row
@@ -213,7 +229,7 @@ abbrev pub symbol_at : List ℕ → ℕ → Symbol
 symbol_at xs k = record {
   at = offset xs k;
   len = extent xs k;
-  kind = kind xs k;
+  kind = coded (kind xs k);
   low = field xs k 9;
   high = field xs k 10;
   level = field xs k 6;

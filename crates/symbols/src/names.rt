@@ -1,51 +1,41 @@
-// Names as parts of the text: their hash, and whether two are the same.
+// Names as parts of the text, and their hashes.
 ghost use Rattle.std.specs.Prelude.{◌≡◌, ◌+◌, ◌≤◌, length};
-ghost use Rattle.numbers.specs.Bytes.{eq_list};
 ghost use Rattle.symbols.specs.Table.{part, hash_of};
 
-// A number of the table as an index.
-pub fn wide(x: u32) -> usize
-    ensures { result ≡ x }
-{
-    x as usize
+// A name that is asked for, with its hash.
+#[derive(Clone, Copy)]
+pub struct Name<'a> {
+    pub bytes: &'a [u8],
+    pub hash: u32,
+    ghost hashed: { hash ≡ hash_of bytes.now },
 }
 
-// A byte as a number of a sum.
-fn byte(b: u8) -> u64
-    ensures { result ≡ b }
+impl<'a> Name<'a> {
+    pub fn new(bytes: &'a [u8]) -> Name<'a>
+        ensures { result.bytes.now ≡ bytes.now }
+    {
+        Name {
+            bytes,
+            hash: hash(bytes),
+        }
+    }
+}
+
+// A part of the text, by its offset and length.
+pub fn part(text: &[u8], at: u32, len: u32) -> &[u8]
+    requires { at + len ≤ length text.now }
+    ensures { result.now ≡ part text.now at len }
 {
-    b as u64
+    &text[at as usize..][..len as usize]
 }
 
 // A name's hash.
-pub fn hash(text: &[u8], at: usize, len: usize) -> u32
-    requires { at + len ≤ length text.now }
-    ensures { result ≡ hash_of (part text.now at len) }
+fn hash(name: &[u8]) -> u32
+    ensures { result ≡ hash_of name.now }
 {
-    let mut h: u64 = 0;
-    let mut k = 0;
-    while k < len {
-        h = (h * 16777619 + byte(text[at + k])) % 4294967296;
-        k += 1;
+    let mut h: u32 = 0;
+    for b in name {
+        h = h.wrapping_mul(16777619).wrapping_add(u32::from(*b));
     }
-    h as u32
-}
-
-// Whether two parts of the text are the same name.
-pub fn same(text: &[u8], a: usize, n: usize, b: usize, m: usize) -> bool
-    requires n_in_bounds { a + n ≤ length text.now }
-    requires m_in_bounds { b + m ≤ length text.now }
-    ensures { result ≡ eq_list (part text.now a n) (part text.now b m) }
-{
-    if n != m {
-        return false;
-    }
-    let mut k = 0;
-    while k < n {
-        if text[a + k] != text[b + k] {
-            return false;
-        }
-        k += 1;
-    }
-    true
+    h
 }

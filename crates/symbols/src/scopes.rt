@@ -3,30 +3,23 @@ ghost use Rattle.std.specs.Prelude.{◌≡◌, ◌&&◌, List, ℕ, ◌+◌, ◌
 ghost use Rattle.symbols.specs.Table.{scope as scope_of, first as first_of, rows_in, is_open, Linked, Sound, Seen, Became};
 ghost use Rattle.symbols.specs.Steps.{Cleared, Marked, Opened, Unopened, marked};
 
-use crate::names::wide;
+use super::{FIRST, ROW, SCOPE, SIGHT};
 
-const ROW: usize = 12;
-
-const FIRST: usize = 3;
-
-const SCOPE: usize = 4;
-
-const SIGHT: usize = 11;
-
-// What a row's sight says: its name is in the scope list (kept at the first row of that name), and its scope is seen.
-const NAMED: u32 = 1;
-
-const OPEN: u32 = 2;
+// What a row's sight says: nothing; that its name is in the scope list (kept at the first row of that name); or that
+// its scope is seen.
+#[derive(Clone, Copy, PartialEq, Eq)]
+enum Sight {
+    Dark = 0,
+    Named,
+    Open,
+}
 
 // Whether a scope is seen. The main program's is, everywhere.
 pub fn is_open(table: &[u32], scope: u32) -> bool
     requires { 12 * scope ≤ length table.now }
     ensures { result ≡ is_open table.now scope }
 {
-    if scope == 0 {
-        return true;
-    }
-    table[ROW * (wide(scope) - 1) + SIGHT] == OPEN
+    scope == 0 || table[ROW * (scope as usize - 1) + SIGHT] == Sight::Open as u32
 }
 
 // Nothing is seen.
@@ -34,10 +27,8 @@ fn clear(table: &mut [u32], used: usize)
     requires { 12 * used ≤ length table.old }
     ensures { Cleared table.old used table.new }
 {
-    let mut k = 0;
-    while k < used {
-        table[ROW * k + SIGHT] = 0;
-        k += 1;
+    for k in 0..used {
+        table[ROW * k + SIGHT] = Sight::Dark as u32;
     }
 }
 
@@ -46,11 +37,11 @@ fn mark(table: &mut [u32], scope: u32)
     requires { Linked table.old scope }
     ensures { Marked table.old scope table.new }
 {
-    let mut p = wide(scope);
+    let mut p = scope as usize;
     while p != 0 {
-        let first = wide(table[ROW * (p - 1) + FIRST]);
-        table[ROW * first + SIGHT] = NAMED;
-        p = wide(table[ROW * (p - 1) + SCOPE]);
+        let first = table[ROW * (p - 1) + FIRST] as usize;
+        table[ROW * first + SIGHT] = Sight::Named as u32;
+        p = table[ROW * (p - 1) + SCOPE] as usize;
     }
 }
 
@@ -59,11 +50,8 @@ fn opens(table: &[u32], k: usize) -> bool
     requires { Linked table.now (k + 1) }
     ensures { result ≡ (marked table.now (first_of table.now k) && is_open table.now (scope_of table.now k)) }
 {
-    let first = wide(table[ROW * k + FIRST]);
-    if table[ROW * first + SIGHT] == 0 {
-        return false;
-    }
-    is_open(table, table[ROW * k + SCOPE])
+    let first = table[ROW * k + FIRST] as usize;
+    table[ROW * first + SIGHT] != Sight::Dark as u32 && is_open(table, table[ROW * k + SCOPE])
 }
 
 // The rows whose scope, with their own name, is seen.
@@ -72,12 +60,10 @@ fn open_rows(table: &mut [u32], used: usize)
     requires unopened { Unopened table.old used }
     ensures { Opened table.old used table.new }
 {
-    let mut k = 0;
-    while k < used {
+    for k in 0..used {
         if opens(table, k) {
-            table[ROW * k + SIGHT] = OPEN;
+            table[ROW * k + SIGHT] = Sight::Open as u32;
         }
-        k += 1;
     }
 }
 

@@ -9,8 +9,11 @@ use lib.IntN.{ℤ, pos}
 use lib.Dec.{ltb}
 use lib.ListN.{length, get_or, take, set, length-append}
 use borrow.Author.Tests.{lt-ltb, ltb-false}
+use Rattle.std.specs.Prelude.{Result, Ok, Err}
 use Rattle.numbers.specs.Limits.{max_code, row_share, draft_places, draft_share}
 use Rattle.numbers.specs.Panel.{too_many_instructions}
+use Rattle.numbers.specs.declared.refusal.Refusal.{Refusal}
+use Rattle.numbers.specs.Refusals.{number_of}
 use Rattle.numbers.specs.Stack.{links}
 use Rattle.lexer.specs.Tokens.{Name}
 use Rattle.tree.specs.Tree.{Const, Stmts, Procs, no_procs, proc}
@@ -25,21 +28,17 @@ use Rattle.symbols.specs.Symbols.{Scope, Row}
 use Rattle.symbols.specs.Table.{rows_in, scope_at, Sound, Seen, Kept, Became, with_value}
 use Rattle.symbols.specs.Chains.{scope_kept}
 use Rattle.symbols.specs.Kept.{rows_length, scoped_kept, kept_on}
-use Rattle.emission.specs.declared.Made.{Made}
-use Rattle.emission.specs.declared.Made.TheVariants.{At, Refused as NotMade}
-use Rattle.emission.specs.declared.expressions.Env.{Env as CodeEnv}
+use Rattle.emission.specs.declared.Env.{Env as CodeEnv}
 use Rattle.translator.specs.declared.declarations.Frame.{Frame}
 use Rattle.translator.specs.declared.procedures.Place.{Place}
-use Rattle.translator.specs.declared.procedures.Done.{Done as CodeDone}
-use Rattle.translator.specs.declared.procedures.Done.TheVariants.{Finished, Refused}
 use Rattle.emission.specs.Pieces.{Out, made, refuse, emit, jump_over}
 use Rattle.emission.specs.Statements.{Env}
 use Rattle.translator.specs.Translate.{Done, finished, failed, with_done, entry_at, procs_code}
 use Rattle.emission.specs.Draft.{drafted, Wrote, Emits, wrote, refused}
 use Rattle.emission.specs.Meets.{here_of, Known}
 use Rattle.translator.specs.Rows.{HeadingAt, Head, Headed, headed, unheaded}
-use Rattle.translator.specs.Blocks.{inside_code, end_code, refused_of, Start, Through, Means, through, not, ProcsAt, HasProcs, InsideAt, BodyAt}
-use Rattle.emission.specs.Drafting.{Stops, wrote_at, lies_on, append_nil}
+use Rattle.translator.specs.Blocks.{inside_code, end_code, Start, Through, Means, through, not, ProcsAt, HasProcs, InsideAt, BodyAt}
+use Rattle.emission.specs.Drafting.{wrote_at, lies_on, append_nil}
 use Rattle.emission.specs.Jumps.{One, one, jump_made}
 use Rattle.translator.proofs.Rowing.{head_numbers}
 use Rattle.translator.proofs.Blocks.{within, so_far, head_refused, no_place, inside_refused, end_refused, end_made}
@@ -49,11 +48,11 @@ pub procs_fits : {s tr : List ℕ} {i : ℕ} {t : Procs} → ProcsAt s tr i t �
 procs_fits {s} {tr} {i} {t} a = (procs_head_lem tr i t a.stands).fits
 
 -- no procedures
-pub none_here : {s tr xs ds : List ℕ} {i : ℕ} (p : Place) → get_or tr i 0 ≡ node_no no_procedures_kind → Start s xs ds p → (sc : Scope) → (t : Procs) → ProcsAt s tr i t → Means (procs_code t p.level sc p.address (rows_in s xs p.used) p.n) s xs p.used ds p.n xs ds (Finished p)
+pub none_here : {s tr xs ds : List ℕ} {i : ℕ} (p : Place) → get_or tr i 0 ≡ node_no no_procedures_kind → Start s xs ds p → (sc : Scope) → (t : Procs) → ProcsAt s tr i t → Means (procs_code t p.frame.level sc p.frame.address (rows_in s xs p.used) p.n) s xs p.used ds p.n xs ds (Ok p)
 unfolding procs_code drafted
 none_here {s} {tr} {xs} {ds} {i} p k g sc t a = of (procs_is (node_head no_procedures_kind) tr i t k a.stands)
   where
-    of : {u : Procs} → ProcsIs (node_head no_procedures_kind) u → Means (procs_code u p.level sc p.address (rows_in s xs p.used) p.n) s xs p.used ds p.n xs ds (Finished p)
+    of : {u : Procs} → ProcsIs (node_head no_procedures_kind) u → Means (procs_code u p.frame.level sc p.frame.address (rows_in s xs p.used) p.n) s xs p.used ds p.n xs ds (Ok p)
     of is_none = through {q = p} (record {
       code = [];
       is = refl;
@@ -166,17 +165,11 @@ pub emit_refused : (o : Op) (l : ℕ) (a : ℤ) (n e : ℕ) → emit o l a n ≡
 unfolding emit
 emit_refused o l a n e h = no_room o l a n e (ltb n max_code) refl h
 
-headed_at : {m : Name} {ar : List Name} {s xs ys : List ℕ} {k : ℕ} {f : Frame} {r : Made} {u : ℕ} → r ≡ At u → Headed m ar s xs k f ys r → Head m ar s xs k f ys u
-headed_at {m} {ar} {s} {xs} {ys} {k} {f} {r} {u} e h = of (rw e at h)
-  where
-    of : Headed m ar s xs k f ys (At u) → Head m ar s xs k f ys u
-    of (headed w) = w
+headed_at : {m : Name} {ar : List Name} {s xs ys : List ℕ} {k : ℕ} {f : Frame} {u : ℕ} → Headed m ar s xs k f ys (Ok u) → Head m ar s xs k f ys u
+headed_at (headed w) = w
 
-pub through_at : {o : Done} {s xs : List ℕ} {k : ℕ} {ds : List ℕ} {n : ℕ} {ys es : List ℕ} {r : CodeDone} {q : Place} → r ≡ Finished q → Means o s xs k ds n ys es r → Through o s xs k ds n ys es q
-through_at {o} {s} {xs} {k} {ds} {n} {ys} {es} {r} {q} e h = of (rw e at h)
-  where
-    of : Means o s xs k ds n ys es (Finished q) → Through o s xs k ds n ys es q
-    of (through t) = t
+pub through_at : {o : Done} {s xs : List ℕ} {k : ℕ} {ds : List ℕ} {n : ℕ} {ys es : List ℕ} {q : Place} → Means o s xs k ds n ys es (Ok q) → Through o s xs k ds n ys es q
+through_at (through t) = t
 
 made_same : (c d : List Instr) → made c ≡ made d → c ≡ d
 made_same c d e = cc
@@ -186,28 +179,40 @@ pub jump_lies : (k n m : ℕ) {ds es : List ℕ} (c : List Instr) → One JMP 0 
     → take (draft_share * q) fs ≡ take (draft_share * m) es ++ drafted c → take (draft_share * q) (set fs (draft_share * n + 2) v) ≡ take (draft_share * n) ds ++ drafted (ins JMP 0 (pos v) ∷ c)
 unfolding jump_over
 jump_lies k n m {ds} {es} c w fs q v e b ev small room l =
-    let j = wrote_at refl (jump_made JMP k n m (λ z. made c) w {r = At q} v refl ev small room (wrote {m = q} (record { code = c; is = refl; ends = e; lies = l; most = b }))) in
+    let j = wrote_at (jump_made JMP k n m (λ z. made c) w v ev small room (wrote {m = q} (record { code = c; is = refl; ends = e; lies = l; most = b }))) in
     let is : jump_over JMP k (λ z. made c) n ≡ made (ins JMP 0 (pos (suc n + length c + k)) ∷ c) = rw (lt-ltb n max_code w.below, jump_over) in
     let ve : suc n + length c + k ≡ v = omega (arith, w.ends) in
     j.lies ∙ ap (λ (x : List Instr). take (draft_share * n) ds ++ drafted x) (made_same j.code (ins JMP 0 (pos (suc n + length c + k)) ∷ c) (sym j.is ∙ is) ∙ ap (λ (x : ℕ). ins JMP 0 (pos x) ∷ c) ve)
 
 -- what is refused on the way refuses the whole
-pub refused_code : {o : Done} {x : Out} {s xs : List ℕ} {k : ℕ} {ds : List ℕ} {n : ℕ} {ys es : List ℕ} {n' : ℕ} {vs ws : List ℕ} {c : Made} → ((e : ℕ) → x ≡ refuse e → o ≡ failed e) → Stops c → Emits x n' vs ws c → {r : CodeDone} → r ≡ refused_of c → Means o s xs k ds n ys es r
-refused_code f t (wrote {m} w) q = absurd (t m refl)
-refused_code f t (refused {e} h) q = rw q (not {e = e} (f e h))
+pub refused_code : {o : Done} {x : Out} {s xs : List ℕ} {k : ℕ} {ds : List ℕ} {n : ℕ} {ys es : List ℕ} {n' : ℕ} {vs ws : List ℕ} {e : Refusal} → ((k : ℕ) → x ≡ refuse k → o ≡ failed k) → Emits x n' vs ws (Err e) → Means o s xs k ds n ys es (Err e)
+refused_code {e} f (refused h) = not {e = e} (f (number_of e) h)
+
+-- the context of a body: with the text s and the table xs of k rows, in a scope at a level
+pub record Around (s xs : List ℕ) (k p l : ℕ) (e : CodeEnv) : Type 0 where
+  pub text : e.text.now ≡ s
+  pub table : e.table.now ≡ xs
+  pub used : e.used ≡ k
+  pub scope : e.scope ≡ p
+  pub level : e.level ≡ l
+
+module _ {s xs : List ℕ} {k p l : ℕ} {e : CodeEnv} (w : Around s xs k p l e) where
+  pub around_known : Sound s xs k → Seen xs k p → Known e
+  around_known g v = record { sound = rw (w.text, w.table, w.used) g; seen = rw (w.table, w.used, w.scope) v }
+
+  pub around_is : here_of e ≡ record { rows = rows_in s xs k; level = l; scope = scope_at s xs p }
+  unfolding here_of
+  around_is = rw (w.text, w.table, w.used, w.scope, w.level)
 
 module _ (s tr xs ds : List ℕ) (i : ℕ) (p : Place) (G : Start s xs ds p) {n : Name} {ar : List Name} {cs : List Const} {vs : List Name} {inner : Procs} {b : Stmts} {later : Procs} (x : Nested s tr i n ar cs vs inner b later) where
-  abbrev frame : Frame
-  frame = record { scope = p.scope; level = p.level; address = p.address }
-
   abbrev sc : Scope
-  sc = scope_at s xs p.scope
+  sc = scope_at s xs p.frame.scope
 
   abbrev rs : List Row
   rs = rows_in s xs p.used
 
   abbrev whole : Done
-  whole = procs_code (proc n ar cs vs inner b later) p.level sc p.address rs p.n
+  whole = procs_code (proc n ar cs vs inner b later) p.frame.level sc p.frame.address rs p.n
 
   abbrev size : ℕ
   size = get_or tr (i + 10) 0
@@ -215,17 +220,13 @@ module _ (s tr xs ds : List ℕ) (i : ℕ) (p : Place) (G : Start s xs ds p) {n 
   size_is : size ≡ length ar
   size_is = (head_numbers x.heading).size_is
 
-  module _ {ys : List ℕ} {h : Made} (hh : Headed n ar s xs p.used frame ys h) where
-    pub head_stop : {ys' es : List ℕ} → Stops h → {r : CodeDone} → r ≡ refused_of h → Means whole s xs p.used ds p.n ys' es r
-    head_stop {ys'} {es} t q = of h t hh q
-      where
-        of : (g : Made) → Stops g → Headed n ar s xs p.used frame ys g → {r : CodeDone} → r ≡ refused_of g → Means whole s xs p.used ds p.n ys' es r
-        of (At u) t (headed w) q = absurd (t u refl)
-        of (NotMade e) t (unheaded w) q = rw q (not {e = e} (head_refused n ar cs vs inner b later p.level sc p.address rs p.n w))
+  module _ {ys : List ℕ} where
+    pub head_stop : {e : Refusal} → Headed n ar s xs p.used p.frame ys (Err e) → {ys' es : List ℕ} → Means whole s xs p.used ds p.n ys' es (Err e)
+    head_stop {e} (unheaded w) = not {e = e} (head_refused n ar cs vs inner b later p.frame.level sc p.frame.address rs p.n w)
 
-    module _ {u : ℕ} (eh : h ≡ At u) where
-      H : Head n ar s xs p.used frame ys u
-      H = headed_at eh hh
+    module _ {u : ℕ} (hh : Headed n ar s xs p.used p.frame ys (Ok u)) where
+      H : Head n ar s xs p.used p.frame ys u
+      H = headed_at hh
 
       pub inner_low : 3 + size ≤ u + links
       inner_low = omega (arith, H.more, size_is)
@@ -233,15 +234,15 @@ module _ (s tr xs ds : List ℕ) (i : ℕ) (p : Place) (G : Start s xs ds p) {n 
       pub size_small : size ≤ max_code
       size_small = omega (arith, H.more, size_is, H.rowed.sound.linked.most)
 
-      module _ {es : List ℕ} {j : Made} (hj : Emits (emit JMP 0 (pos 0) p.n) p.n ds es j) where
-        pub jump_stop : {ys' es' : List ℕ} → Stops j → {r : CodeDone} → r ≡ refused_of j → Means whole s xs p.used ds p.n ys' es' r
-        jump_stop t q = refused_code (λ e w. let v = emit_refused JMP 0 (pos 0) p.n e w in no_place n ar cs vs inner b later p.level sc p.address rs p.n (rows_in s ys u) H.rowed.is v.0 ∙ ap failed (sym v.1)) t hj q
+      module _ {es : List ℕ} where
+        pub jump_stop : {e : Refusal} → Emits (emit JMP 0 (pos 0) p.n) p.n ds es (Err e) → {ys' es' : List ℕ} → Means whole s xs p.used ds p.n ys' es' (Err e)
+        jump_stop hj = refused_code (λ k w. let v = emit_refused JMP 0 (pos 0) p.n k w in no_place n ar cs vs inner b later p.frame.level sc p.frame.address rs p.n (rows_in s ys u) H.rowed.is v.0 ∙ ap failed (sym v.1)) hj
 
-        module _ {m : ℕ} (ej : j ≡ At m) where
+        module _ {m : ℕ} (hj : Emits (emit JMP 0 (pos 0) p.n) p.n ds es (Ok m)) where
           J : One JMP 0 (pos 0) p.n m ds es
-          J = one ej hj
+          J = one hj
 
-          pub inner_start : length es ≡ length ds → Start s ys es (record { scope = p.used + 1; level = p.level + 1; used = u; address = 3 + size; n = m })
+          pub inner_start : length es ≡ length ds → Start s ys es (record { frame = record { scope = p.used + 1; level = p.frame.level + 1; address = 3 + size }; used = u; n = m })
           inner_start e = record {
             sound = H.rowed.sound;
             scoped = H.inner;
@@ -251,24 +252,20 @@ module _ (s tr xs ds : List ℕ) (i : ℕ) (p : Place) (G : Start s xs ds p) {n 
             most = omega (arith, J.below, J.ends);
           }
 
-          module _ {ys₂ es₂ : List ℕ} {d : CodeDone} (hd : Means (inside_code cs vs inner (p.level + 1) (scope_at s ys (p.used + 1)) (3 + size) (rows_in s ys u) m) s ys u es m ys₂ es₂ d) where
-            inside_is : inside_code cs vs inner (suc p.level) (n.text ∷ sc) (links + length ar) (rows_in s ys u) (p.n + 1) ≡ inside_code cs vs inner (p.level + 1) (scope_at s ys (p.used + 1)) (3 + size) (rows_in s ys u) m
-            inside_is =
-                ap (λ (l : ℕ). inside_code cs vs inner l (n.text ∷ sc) (links + length ar) (rows_in s ys u) (p.n + 1)) (sym (add-one p.level))
-                ∙ ap (λ (c : Scope). inside_code cs vs inner (p.level + 1) c (links + length ar) (rows_in s ys u) (p.n + 1)) (sym H.inner_is)
-                ∙ ap (λ (a : ℕ). inside_code cs vs inner (p.level + 1) (scope_at s ys (p.used + 1)) (links + a) (rows_in s ys u) (p.n + 1)) (sym size_is)
-                ∙ ap (inside_code cs vs inner (p.level + 1) (scope_at s ys (p.used + 1)) (3 + size) (rows_in s ys u)) (sym J.ends)
+          inside_is : inside_code cs vs inner (suc p.frame.level) (n.text ∷ sc) (links + length ar) (rows_in s ys u) (p.n + 1) ≡ inside_code cs vs inner (p.frame.level + 1) (scope_at s ys (p.used + 1)) (3 + size) (rows_in s ys u) m
+          inside_is =
+              ap (λ (l : ℕ). inside_code cs vs inner l (n.text ∷ sc) (links + length ar) (rows_in s ys u) (p.n + 1)) (sym (add-one p.frame.level))
+              ∙ ap (λ (c : Scope). inside_code cs vs inner (p.frame.level + 1) c (links + length ar) (rows_in s ys u) (p.n + 1)) (sym H.inner_is)
+              ∙ ap (λ (a : ℕ). inside_code cs vs inner (p.frame.level + 1) (scope_at s ys (p.used + 1)) (links + a) (rows_in s ys u) (p.n + 1)) (sym size_is)
+              ∙ ap (inside_code cs vs inner (p.frame.level + 1) (scope_at s ys (p.used + 1)) (3 + size) (rows_in s ys u)) (sym J.ends)
 
-            pub inside_stop : {ys' es' : List ℕ} → ((q : Place) → d ≡ Finished q → ⊥) → Means whole s xs p.used ds p.n ys' es' d
-            inside_stop {ys'} {es'} t = of d t hd
-              where
-                of : (g : CodeDone) → ((q : Place) → g ≡ Finished q → ⊥) → Means (inside_code cs vs inner (p.level + 1) (scope_at s ys (p.used + 1)) (3 + size) (rows_in s ys u) m) s ys u es m ys₂ es₂ g → Means whole s xs p.used ds p.n ys' es' g
-                of (Finished q) t (through w) = absurd (t q refl)
-                of (Refused e) t (not w) = not {e = e} (inside_refused n ar cs vs inner b later p.level sc p.address rs p.n (rows_in s ys u) H.rowed.is J.below (inside_is ∙ w))
+          module _ {ys₂ es₂ : List ℕ} where
+            pub inside_stop : {e : Refusal} → Means (inside_code cs vs inner (p.frame.level + 1) (scope_at s ys (p.used + 1)) (3 + size) (rows_in s ys u) m) s ys u es m ys₂ es₂ (Err e) → {ys' es' : List ℕ} → Means whole s xs p.used ds p.n ys' es' (Err e)
+            inside_stop {e} (not w) = not {e = e} (inside_refused n ar cs vs inner b later p.frame.level sc p.frame.address rs p.n (rows_in s ys u) H.rowed.is J.below (inside_is ∙ w))
 
-            module _ {q : Place} (ed : d ≡ Finished q) where
-              T : Through (inside_code cs vs inner (p.level + 1) (scope_at s ys (p.used + 1)) (3 + size) (rows_in s ys u) m) s ys u es m ys₂ es₂ q
-              T = through_at ed hd
+            module _ {q : Place} (hd : Means (inside_code cs vs inner (p.frame.level + 1) (scope_at s ys (p.used + 1)) (3 + size) (rows_in s ys u) m) s ys u es m ys₂ es₂ (Ok q)) where
+              T : Through (inside_code cs vs inner (p.frame.level + 1) (scope_at s ys (p.used + 1)) (3 + size) (rows_in s ys u) m) s ys u es m ys₂ es₂ q
+              T = through_at hd
 
               entry_is : q.n ≡ p.n + 1 + length T.code
               entry_is = omega (arith, T.ends, J.ends)
@@ -294,81 +291,74 @@ module _ (s tr xs ds : List ℕ) (i : ℕ) (p : Place) (G : Start s xs ds p) {n 
                     ∙ scope_kept 9 u s ys ys₂ (omega arith) H.rowed.sound.linked T.kept (p.used + 1) (omega (arith, H.more))
                     ∙ H.inner_is
 
-                outer₄ : scope_at s ys₄ p.scope ≡ sc
-                outer₄ = scope_kept 9 p.used s xs ys₄ (omega arith) G.sound.linked kept_all p.scope G.scoped.known
+                outer₄ : scope_at s ys₄ p.frame.scope ≡ sc
+                outer₄ = scope_kept 9 p.used s xs ys₄ (omega arith) G.sound.linked kept_all p.frame.scope G.scoped.known
 
-                abbrev env : CodeEnv
-                env = record { used = q.used; scope = p.used + 1; level = p.level + 1 }
+                module _ (e : CodeEnv) (we : Around s ys₄ q.used (p.used + 1) (p.frame.level + 1) e) where
+                  pub env_known : Seen ys₄ q.used (p.used + 1) → Known e
+                  env_known v = around_known we hs.sound v
 
-                pub env_known : Seen ys₄ q.used (p.used + 1) → Known s ys₄ env
-                env_known v = record { sound = hs.sound; seen = v }
+                  here_is : here_of e ≡ within n ar cs vs inner b later p.frame.level sc p.frame.address rs p.n T.code (rows_in s ys₂ q.used)
+                  here_is = around_is we ∙ rw (rows₄, scope₄, add-one p.frame.level)
 
-                here_is : here_of s ys₄ env ≡ within n ar cs vs inner b later p.level sc p.address rs p.n T.code (rows_in s ys₂ q.used)
-                unfolding here_of
-                here_is = rw (rows₄, scope₄, add-one p.level)
-
-                module _ {es₃ es₄ : List ℕ} (hf : es₃ ≡ set es₂ (draft_share * p.n + 2) (q.n + size)) {e : Made} (hb : Emits (end_code (here_of s ys₄ env) q.address size b q.n) q.n es₃ es₄ e) where
-                  end_is : end_code (within n ar cs vs inner b later p.level sc p.address rs p.n T.code (rows_in s ys₂ q.used)) q.address (length ar) b (p.n + 1 + length T.code) ≡ end_code (here_of s ys₄ env) q.address size b q.n
+                  end_is : end_code (within n ar cs vs inner b later p.frame.level sc p.frame.address rs p.n T.code (rows_in s ys₂ q.used)) q.frame.address (length ar) b (p.n + 1 + length T.code) ≡ end_code (here_of e) q.frame.address size b q.n
                   end_is =
-                      ap (λ (ρ : Env). end_code ρ q.address (length ar) b (p.n + 1 + length T.code)) (sym here_is)
-                      ∙ ap (λ (k : ℕ). end_code (here_of s ys₄ env) q.address k b (p.n + 1 + length T.code)) (sym size_is)
-                      ∙ ap (end_code (here_of s ys₄ env) q.address size b) (sym entry_is)
+                      ap (λ (ρ : Env). end_code ρ q.frame.address (length ar) b (p.n + 1 + length T.code)) (sym here_is)
+                      ∙ ap (λ (k : ℕ). end_code (here_of e) q.frame.address k b (p.n + 1 + length T.code)) (sym size_is)
+                      ∙ ap (end_code (here_of e) q.frame.address size b) (sym entry_is)
 
-                  pub end_stop : {ys' es' : List ℕ} → Stops e → {r : CodeDone} → r ≡ refused_of e → Means whole s xs p.used ds p.n ys' es' r
-                  end_stop t g = refused_code (λ k w. end_refused n ar cs vs inner b later p.level sc p.address rs p.n (rows_in s ys u) H.rowed.is J.below T.code (rows_in s ys₂ q.used) q.address (inside_is ∙ T.is) (end_is ∙ w)) t hb g
+                  module _ {es₃ es₄ : List ℕ} (hf : es₃ ≡ set es₂ (draft_share * p.n + 2) (q.n + size)) where
+                    pub end_stop : {x : Refusal} → Emits (end_code (here_of e) q.frame.address size b q.n) q.n es₃ es₄ (Err x) → {ys' es' : List ℕ} → Means whole s xs p.used ds p.n ys' es' (Err x)
+                    end_stop hb = refused_code (λ k w. end_refused n ar cs vs inner b later p.frame.level sc p.frame.address rs p.n (rows_in s ys u) H.rowed.is J.below T.code (rows_in s ys₂ q.used) q.frame.address (inside_is ∙ T.is) (end_is ∙ w)) hb
 
-                  module _ {z : ℕ} (ee : e ≡ At z) where
-                    E : Wrote (end_code (here_of s ys₄ env) q.address size b q.n) q.n es₃ es₄ z
-                    E = wrote_at ee hb
+                    module _ {z : ℕ} (hb : Emits (end_code (here_of e) q.frame.address size b q.n) q.n es₃ es₄ (Ok z)) where
+                      E : Wrote (end_code (here_of e) q.frame.address size b q.n) q.n es₃ es₄ z
+                      E = wrote_at hb
 
-                    pub later_start : length es₄ ≡ length ds → Start s ys₄ es₄ (record { scope = p.scope; level = p.level; used = q.used; address = p.address + 1; n = z })
-                    later_start l = record {
-                      sound = hs.sound;
-                      scoped = scoped_kept 9 p.used q.used xs ys₄ p.scope (omega arith) (omega (arith, entered.0)) kept_all G.scoped;
-                      level = omega (arith, G.level, entered.0);
-                      low = omega (arith, G.low, entered.0);
-                      room = omega (arith, G.room);
-                      most = E.most;
-                    }
+                      pub later_start : length es₄ ≡ length ds → Start s ys₄ es₄ (record { frame = record { scope = p.frame.scope; level = p.frame.level; address = p.frame.address + 1 }; used = q.used; n = z })
+                      later_start l = record {
+                        sound = hs.sound;
+                        scoped = scoped_kept 9 p.used q.used xs ys₄ p.frame.scope (omega arith) (omega (arith, entered.0)) kept_all G.scoped;
+                        level = omega (arith, G.level, entered.0);
+                        low = omega (arith, G.low, entered.0);
+                        room = omega (arith, G.room);
+                        most = E.most;
+                      }
 
-                    abbrev c : List Instr
-                    c = so_far n ar cs vs inner b later p.level sc p.address rs p.n T.code E.code
+                      abbrev c : List Instr
+                      c = so_far n ar cs vs inner b later p.frame.level sc p.frame.address rs p.n T.code E.code
 
-                    length_c : p.n + length c ≡ z
-                    length_c = omega (arith, E.ends, entry_is, length-append T.code E.code)
+                      length_c : p.n + length c ≡ z
+                      length_c = omega (arith, E.ends, entry_is, length-append T.code E.code)
 
-                    lies_c : take (draft_share * z) es₄ ≡ take (draft_share * p.n) ds ++ drafted c
-                    lies_c =
-                        let v : q.n + size ≡ p.n + 1 + length T.code + length ar = omega (arith, entry_is, size_is) in
-                        lies_on (take (draft_share * p.n) ds) (ins JMP 0 (pos (p.n + 1 + length T.code + length ar)) ∷ T.code) E.code (take (draft_share * q.n) es₃) (take (draft_share * z) es₄)
-                        (ap (take (draft_share * q.n)) hf
-                        ∙ jump_lies size p.n m T.code J es₂ q.n (q.n + size) T.ends T.most refl (omega (arith, T.most, size_small)) G.room T.lies
-                        ∙ ap (λ (k : ℕ). take (draft_share * p.n) ds ++ drafted (ins JMP 0 (pos k) ∷ T.code)) v)
-                        E.lies
+                      lies_c : take (draft_share * z) es₄ ≡ take (draft_share * p.n) ds ++ drafted c
+                      lies_c =
+                          let v : q.n + size ≡ p.n + 1 + length T.code + length ar = omega (arith, entry_is, size_is) in
+                          lies_on (take (draft_share * p.n) ds) (ins JMP 0 (pos (p.n + 1 + length T.code + length ar)) ∷ T.code) E.code (take (draft_share * q.n) es₃) (take (draft_share * z) es₄)
+                          (ap (take (draft_share * q.n)) hf
+                          ∙ jump_lies size p.n m T.code J es₂ q.n (q.n + size) T.ends T.most refl (omega (arith, T.most, size_small)) G.room T.lies
+                          ∙ ap (λ (k : ℕ). take (draft_share * p.n) ds ++ drafted (ins JMP 0 (pos k) ∷ T.code)) v)
+                          E.lies
 
-                    whole_is : whole ≡ with_done (procs_code later p.level (scope_at s ys₄ p.scope) (p.address + 1) (rows_in s ys₄ q.used) z) (λ c3 r7 a3. finished (c ++ c3) r7 a3)
-                    whole_is =
-                        end_made n ar cs vs inner b later p.level sc p.address rs p.n (rows_in s ys u) H.rowed.is J.below T.code (rows_in s ys₂ q.used) q.address (inside_is ∙ T.is) E.code (end_is ∙ E.is)
-                        ∙ ap (λ (d : Done). with_done d λ c3 r7 a3. finished (c ++ c3) r7 a3)
-                        (ap (λ (k : ℕ). procs_code later p.level sc (suc p.address) (entry_at (rows_in s ys₂ q.used) (length rs) (p.n + 1 + length T.code)) k) length_c
-                        ∙ ap (λ (t : List Row). procs_code later p.level sc (suc p.address) t z) (sym rows₄)
-                        ∙ ap (λ (t : ℕ). procs_code later p.level sc t (rows_in s ys₄ q.used) z) (sym (add-one p.address))
-                        ∙ ap (λ (t : Scope). procs_code later p.level t (p.address + 1) (rows_in s ys₄ q.used) z) (sym outer₄))
+                      whole_is : whole ≡ with_done (procs_code later p.frame.level (scope_at s ys₄ p.frame.scope) (p.frame.address + 1) (rows_in s ys₄ q.used) z) (λ c3 r7 a3. finished (c ++ c3) r7 a3)
+                      whole_is =
+                          end_made n ar cs vs inner b later p.frame.level sc p.frame.address rs p.n (rows_in s ys u) H.rowed.is J.below T.code (rows_in s ys₂ q.used) q.frame.address (inside_is ∙ T.is) E.code (end_is ∙ E.is)
+                          ∙ ap (λ (d : Done). with_done d λ c3 r7 a3. finished (c ++ c3) r7 a3)
+                          (ap (λ (k : ℕ). procs_code later p.frame.level sc (suc p.frame.address) (entry_at (rows_in s ys₂ q.used) (length rs) (p.n + 1 + length T.code)) k) length_c
+                          ∙ ap (λ (t : List Row). procs_code later p.frame.level sc (suc p.frame.address) t z) (sym rows₄)
+                          ∙ ap (λ (t : ℕ). procs_code later p.frame.level sc t (rows_in s ys₄ q.used) z) (sym (add-one p.frame.address))
+                          ∙ ap (λ (t : Scope). procs_code later p.frame.level t (p.frame.address + 1) (rows_in s ys₄ q.used) z) (sym outer₄))
 
-                    pub later_made : {ys₅ es₅ : List ℕ} {r : CodeDone} → Means (procs_code later p.level (scope_at s ys₄ p.scope) (p.address + 1) (rows_in s ys₄ q.used) z) s ys₄ q.used es₄ z ys₅ es₅ r → Means whole s xs p.used ds p.n ys₅ es₅ r
-                    later_made {ys₅} {es₅} (through {q = v} t) = through {q = v} (record {
-                      code = c ++ t.code;
-                      is = whole_is ∙ ap (λ (d : Done). with_done d λ c3 r7 a3. finished (c ++ c3) r7 a3) t.is;
-                      sound = t.sound;
-                      above = omega (arith, t.above, entered.0);
-                      kept = kept_on 9 p.used 9 9 q.used xs ys₄ ys₅ (omega arith) (omega arith) (omega (arith, entered.0)) kept_all t.kept;
-                      low = t.low;
-                      ends = omega (arith, t.ends, length_c, length-append c t.code);
-                      lies = lies_on (take (draft_share * p.n) ds) c t.code (take (draft_share * z) es₄) (take (draft_share * v.n) es₅) lies_c t.lies;
-                      most = t.most;
-                    })
-                    later_made (not {e = k} w) = not {e = k} (whole_is ∙ ap (λ (d : Done). with_done d λ c3 r7 a3. finished (c ++ c3) r7 a3) w)
-
--- a refusal is no place
-pub unfinished : {d : CodeDone} {e : ℕ} → d ≡ Refused e → (q : Place) → d ≡ Finished q → ⊥
-unfinished u q v = let z : ◌≡◌ {A = ℕ} 0 1 = cc in omega arith
+                      pub later_made : {ys₅ es₅ : List ℕ} {r : Result Place Refusal} → Means (procs_code later p.frame.level (scope_at s ys₄ p.frame.scope) (p.frame.address + 1) (rows_in s ys₄ q.used) z) s ys₄ q.used es₄ z ys₅ es₅ r → Means whole s xs p.used ds p.n ys₅ es₅ r
+                      later_made {ys₅} {es₅} (through {q = v} t) = through {q = v} (record {
+                        code = c ++ t.code;
+                        is = whole_is ∙ ap (λ (d : Done). with_done d λ c3 r7 a3. finished (c ++ c3) r7 a3) t.is;
+                        sound = t.sound;
+                        above = omega (arith, t.above, entered.0);
+                        kept = kept_on 9 p.used 9 9 q.used xs ys₄ ys₅ (omega arith) (omega arith) (omega (arith, entered.0)) kept_all t.kept;
+                        low = t.low;
+                        ends = omega (arith, t.ends, length_c, length-append c t.code);
+                        lies = lies_on (take (draft_share * p.n) ds) c t.code (take (draft_share * z) es₄) (take (draft_share * v.n) es₅) lies_c t.lies;
+                        most = t.most;
+                      })
+                      later_made (not {e = k} w) = not {e = k} (whole_is ∙ ap (λ (d : Done). with_done d λ c3 r7 a3. finished (c ++ c3) r7 a3) w)

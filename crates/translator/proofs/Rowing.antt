@@ -8,7 +8,10 @@ use native.Mathlib.Numerals.{add-one}
 use lib.Dec.{ltb}
 use lib.ListN.{length, get_or, take, drop, length-append}
 use lib.Seq.{get_or-drop, get_or-take}
+use Rattle.std.specs.Prelude.{Result, Ok, Err}
 use Rattle.numbers.specs.Limits.{row_share, max_rows}
+use Rattle.numbers.specs.declared.refusal.Refusal.{Refusal}
+use Rattle.numbers.specs.Refusals.{number_of}
 use Rattle.numbers.specs.Panel.{name_taken, too_many_rows}
 use Rattle.numbers.specs.Bytes.{is_letter}
 use Rattle.numbers.specs.Stack.{links}
@@ -20,19 +23,16 @@ use Rattle.tree.specs.Named.{NameIn, Each, NamedConst}
 use Rattle.tree.specs.Reading.{After, word_at, literal_at, branch_at, two_at}
 use Rattle.tree.specs.Standing.{NameAt, HasName}
 use Rattle.tree.specs.Parts.{name_first, list_count}
-use Rattle.symbols.specs.declared.Added.{Added}
-use Rattle.symbols.specs.declared.Added.TheVariants.{Used, Refused as NotAdded}
+use Rattle.symbols.specs.declared.Kind.{Kind as CodeKind}
+use Rattle.symbols.specs.declared.Kind.TheVariants.{Variable}
 use Rattle.symbols.specs.declared.Symbol.{Symbol}
 use Rattle.symbols.specs.Symbols.{procedure, Row, Rows, rows, refuse_rows, Scope, and_rows, one_more, fresh, declared, const_row, var_row, proc_row, const_rows, var_rows, arg_rows}
-use Rattle.symbols.specs.Table.{part, kind_of, rows_in, scope_at, row_of, Named, Sound, Scoped, Kept, Grown, Adds, Declares}
+use Rattle.symbols.specs.Table.{part, kind_for, rows_in, scope_at, row_of, Named, Sound, Scoped, Kept, Grown, Adds, Declares}
 use Rattle.symbols.specs.Chains.{scope_kept}
 use Rattle.symbols.specs.Kept.{rows_length, scoped_kept, scoped_new, kept_on, letter_named}
 use Rattle.symbols.specs.ByNumbers.{name_is}
-use Rattle.emission.specs.declared.Made.{Made}
-use Rattle.emission.specs.declared.Made.TheVariants.{At, Refused}
 use Rattle.translator.specs.declared.declarations.Frame.{Frame}
-use Rattle.translator.specs.Rows.{made_of, Can, Rowed, Declared, rowed, unrowed, add_name, name_rows, variable_of, ConstAt, ListAt, HeadingAt, head_rows, Headed, headed, unheaded}
-use Rattle.emission.specs.Drafting.{Stops}
+use Rattle.translator.specs.Rows.{Can, Rowed, Declared, rowed, unrowed, add_name, name_rows, constant_of, variable_of, procedure_of, ConstAt, ListAt, HeadingAt, HasHeading, head_rows, Headed, headed, unheaded}
 
 letters : (w : List ℕ) → is_letter (get_or w 0 0) ≡ true → 1 ≤ length w
 unfolding is_letter
@@ -51,10 +51,10 @@ declarable s m a n ea en h =
     (ap is_letter (ap (λ (x : ℕ). get_or s x 0) ea ∙ first_byte s m.at (length m.text) m.text (letters m.text h.letter) h.is) ∙ h.letter)
 
 -- what the table answers
-pub answered : {o : Rows} {s xs : List ℕ} {k : ℕ} (y : Symbol) {ys : List ℕ} (a : Added) {r : Made} → r ≡ made_of a → Adds o s xs k y ys a → Declared o s xs k ys r
+answered : {o : Rows} {s xs : List ℕ} {k : ℕ} (y : Symbol) {ys : List ℕ} (r : Result ℕ Refusal) → Adds o s xs k y ys r → Declared o s xs k ys r
 unfolding Adds
-answered y (Used m) e w = rw e (rowed {m = m} (record { is = w.is; sound = w.sound; above = omega (arith, w.one); kept = w.kept }))
-answered y (NotAdded n) e w = rw e (unrowed {e = n} w)
+answered y (Ok m) w = rowed {m = m} (record { is = w.is; sound = w.sound; above = omega (arith, w.one); kept = w.kept })
+answered y (Err e) w = unrowed {e = e} w
 
 -- a constant by its numbers
 pub record ConstNumbers (s tr : List ℕ) (i : ℕ) (c : Const) : Type 0 where
@@ -79,22 +79,9 @@ const_numbers {s} {tr} {i} {c} a =
       text_is = name_is {s = s} {n = c.id} (get_or tr (i + 6) 0) (get_or tr (i + 7) 0) f.at6 f.at7 a.named.0;
     }
 
--- the row that the numbers say is the constant's
-pub const_row_lem : {s tr xs ys : List ℕ} {i k : ℕ} {f : Frame} {y : Symbol} {r : Made} (rs : List Row)
-    → y ≡ record { at = get_or tr (i + 6) 0; len = get_or tr (i + 7) 0; kind = 1; low = get_or tr (i + 10) 0; high = get_or tr (i + 11) 0; level = f.level; address = f.address; size = 0; scope = f.scope }
-    → Declared (fresh rs (row_of s xs y)) s xs k ys r → (c : Const) → ConstAt s tr i c → Declared (fresh rs (const_row c f.level f.address (scope_at s xs f.scope))) s xs k ys r
-unfolding row_of kind_of
-const_row_lem {s} {tr} {xs} {ys} {i} {k} {f} {y} {r} rs e h c a =
-    let n = const_numbers a in
-    rw (← n.text_is, ← n.value) (rw e at h)
-
--- a variable or an argument
-pub name_row : {s tr xs ys : List ℕ} {i k : ℕ} {f : Frame} {y : Symbol} {r : Made} (rs : List Row) {b c : Bool}
-    → b ≡ c → y ≡ variable_of tr i f → Declared (add_name c rs (row_of s xs y)) s xs k ys r → (m : Name) → NameAt s tr i m → Declared (add_name b rs (var_row m f.level f.address (scope_at s xs f.scope))) s xs k ys r
-unfolding row_of kind_of
-name_row {s} {tr} {xs} {ys} {i} {k} {f} {y} {r} rs q e h m a =
-    let w = word_at tr i 0 m.at (length m.text) a.stands in
-    rw (q, ← name_is {s = s} {n = m} (get_or tr (i + 2) 0) (get_or tr (i + 3) 0) w.at2 w.at3 a.named) (rw e at h)
+-- a name that the tree declares lies in the text
+pub const_declares : {s tr xs : List ℕ} {i k : ℕ} {f : Frame} {y : Symbol} {c : Const} → y ≡ constant_of tr i f → Sound s xs k → Scoped xs k f.scope → ConstAt s tr i c → Declares s xs k y
+const_declares e g h a = rw e (record { sound = g; named = (const_numbers a).named; scoped = h })
 
 pub var_declares : {s tr xs : List ℕ} {i k : ℕ} {f : Frame} {y : Symbol} → y ≡ variable_of tr i f → Can s xs k f → HasName s tr i → Declares s xs k y
 var_declares {s} {tr} {xs} {i} {k} {f} {y} e g h =
@@ -102,10 +89,25 @@ var_declares {s} {tr} {xs} {i} {k} {f} {y} e g h =
     let w = word_at tr i 0 m.at (length m.text) h.at.stands in
     rw e (record { sound = g.sound; named = declarable s m (get_or tr (i + 2) 0) (get_or tr (i + 3) 0) w.at2 w.at3 h.at.named; scoped = g.scoped })
 
+-- the row that the numbers say is the constant's
+pub const_row_lem : {s tr xs ys : List ℕ} {i k : ℕ} {f : Frame} {y : Symbol} (r : Result ℕ Refusal) (rs : List Row) → y ≡ constant_of tr i f
+    → Adds (fresh rs (row_of s xs y)) s xs k y ys r → (c : Const) → ConstAt s tr i c → Declared (fresh rs (const_row c f.level f.address (scope_at s xs f.scope))) s xs k ys r
+unfolding row_of
+const_row_lem {s} {tr} {xs} {ys} {i} {k} {f} {y} r rs e h c a =
+    let n = const_numbers a in
+    rw (← n.text_is, ← n.value) (rw e at (answered y r h))
+
+-- a variable or an argument
+pub name_row : {s tr xs ys : List ℕ} {i k : ℕ} {f : Frame} {y : Symbol} (r : Result ℕ Refusal) (rs : List Row) {b c : Bool} → b ≡ c → y ≡ variable_of tr i f
+    → Adds (add_name c rs (row_of s xs y)) s xs k y ys r → (m : Name) → NameAt s tr i m → Declared (add_name b rs (var_row m f.level f.address (scope_at s xs f.scope))) s xs k ys r
+unfolding row_of
+name_row {s} {tr} {xs} {ys} {i} {k} {f} {y} r rs q e h m a =
+    let w = word_at tr i 0 m.at (length m.text) a.stands in
+    rw (q, ← name_is {s = s} {n = m} (get_or tr (i + 2) 0) (get_or tr (i + 3) 0) w.at2 w.at3 a.named) (rw e at (answered y r h))
+
 -- a variable is no procedure
-pub no_procedure : {A : Type 0} (k : ℕ) → k ≡ 2 → kind_of k ≡ procedure → A
-unfolding kind_of
-no_procedure k e h = let q : kind_of 2 ≡ procedure = rw e at h in let z : ◌≡◌ {A = ℕ} 0 1 = cc in absurd (omega arith)
+pub no_procedure : {A : Type 0} (k : CodeKind) → k ≡ Variable → kind_for k ≡ procedure → A
+no_procedure k e h = let q = rw e at h in let z : ◌≡◌ {A = ℕ} 0 1 = cc in absurd (omega arith)
 
 -- a list, member by member: each by `add`, at the address a, a step further on for the next
 unfoldable pub each_rows : {A : Type 0} → (List Row → ℕ → A → Rows) → (ℕ → ℕ) → List Row → ℕ → List A → Rows
@@ -154,17 +156,13 @@ grows_more {o} {s} {xs} {ys} {zs} {k} {p} {u} {m} g w = record {
   scope_is = scope_kept row_share u s ys zs (omega arith) g.sound.linked w.kept p g.scoped.known ∙ g.scope_is;
 }
 
-pub rowed_at : {o : Rows} {s xs ys : List ℕ} {k m : ℕ} {r : Made} → r ≡ At m → Declared o s xs k ys r → Rowed o s xs k ys m
-rowed_at {o} {s} {xs} {ys} {k} {m} e h = of (rw e at h)
-  where
-    of : Declared o s xs k ys (At m) → Rowed o s xs k ys m
-    of (rowed w) = w
+pub rowed_at : {o : Rows} {s xs ys : List ℕ} {k m : ℕ} → Declared o s xs k ys (Ok m) → Rowed o s xs k ys m
+rowed_at (rowed w) = w
 
-pub row_refusal : {o o' : Rows} {s xs ys xs' ys' : List ℕ} {k k' : ℕ} {r : Made} → Stops r → ((e : ℕ) → o ≡ refuse_rows e → o' ≡ refuse_rows e) → Declared o s xs k ys r → Declared o' s xs' k' ys' r
-row_refusal f g (rowed {m} w) = absurd (f m refl)
-row_refusal f g (unrowed {e} h) = unrowed {e = e} (g e h)
+pub row_refusal : {o o' : Rows} {s xs ys xs' ys' : List ℕ} {k k' : ℕ} {e : Refusal} → ((n : ℕ) → o ≡ refuse_rows n → o' ≡ refuse_rows n) → Declared o s xs k ys (Err e) → Declared o' s xs' k' ys' (Err e)
+row_refusal {e} g (unrowed h) = unrowed (g (number_of e) h)
 
-pub same_rows : {o o' : Rows} {s xs ys : List ℕ} {k : ℕ} {r : Made} → o ≡ o' → Declared o' s xs k ys r → Declared o s xs k ys r
+pub same_rows : {o o' : Rows} {s xs ys : List ℕ} {k : ℕ} {r : Result ℕ Refusal} → o ≡ o' → Declared o' s xs k ys r → Declared o s xs k ys r
 same_rows e h = rw e h
 
 -- the four numbers of a list's node are there
@@ -222,17 +220,17 @@ module _ {A : Type 0} (node : A → Node) (P : A → Type 0) (tr : List ℕ) (ad
     pub rows_head : k < N → (l : List A) → ListAt node P tr i l → Next j a rs k l
     rows_head h l x = rows_next h (inv l x)
 
-    pub rows_done : {s xs ys : List ℕ} {p u m : ℕ} → N ≤ k → rs ≡ rows_in s ys m → Grows s xs u p ys m → (l : List A) → ListAt node P tr i l → Declared (each_rows add step rs₀ a₀ l) s xs u ys (At m)
+    pub rows_done : {s xs ys : List ℕ} {p u m : ℕ} → N ≤ k → rs ≡ rows_in s ys m → Grows s xs u p ys m → (l : List A) → ListAt node P tr i l → Declared (each_rows add step rs₀ a₀ l) s xs u ys (Ok m)
     rows_done {m} h e g l x = rowed {m = m} (record { is = rows_none h (inv l x) ∙ ap rows e; sound = g.sound; above = g.above; kept = g.kept })
 
-    module _ {s ys zs : List ℕ} {u : ℕ} {r : Made} (h : k < N) (ens : (x : A) → Stands tr j (enc (node x)) → P x → Declared (add rs a x) s ys u zs r) where
-      pub rows_stop : {xs : List ℕ} {v : ℕ} (zs' : List ℕ) → Stops r → (l : List A) → ListAt node P tr i l → Declared (each_rows add step rs₀ a₀ l) s xs v zs' r
-      rows_stop zs' f l x = let n = rows_next h (inv l x) in row_refusal f (λ e q. n.so ∙ ap (λ (o : Rows). and_rows o λ t. each_rows add step t (step a) n.tail) q) (ens n.head n.stands n.named)
+    module _ (h : k < N) {s ys zs : List ℕ} {u : ℕ} where
+      pub rows_stop : {e : Refusal} → ((x : A) → Stands tr j (enc (node x)) → P x → Declared (add rs a x) s ys u zs (Err e)) → {xs : List ℕ} {v : ℕ} (zs' : List ℕ) (l : List A) → ListAt node P tr i l → Declared (each_rows add step rs₀ a₀ l) s xs v zs' (Err e)
+      rows_stop ens zs' l x = let n = rows_next h (inv l x) in row_refusal (λ e q. n.so ∙ ap (λ (o : Rows). and_rows o λ t. each_rows add step t (step a) n.tail) q) (ens n.head n.stands n.named)
 
-      pub rows_more : {m j' : ℕ} → r ≡ At m → After tr j j' → RowLoop (k + 1) j' (step a) (rows_in s zs m)
-      rows_more e f l x =
+      pub rows_more : {m j' : ℕ} → ((x : A) → Stands tr j (enc (node x)) → P x → Declared (add rs a x) s ys u zs (Ok m)) → After tr j j' → RowLoop (k + 1) j' (step a) (rows_in s zs m)
+      rows_more ens f l x =
           let n = rows_next h (inv l x) in
-          let w = rowed_at e (ens n.head n.stands n.named) in
+          let w = rowed_at (ens n.head n.stands n.named) in
           let je = f (node n.head) n.stands in
           record {
             rest = n.tail;
@@ -306,43 +304,34 @@ head_numbers {s} {tr} {i} {m} {ar} a =
       args_at = record { stands = w.one; named = a.args_named };
     }
 
--- a procedure's numbers
-abbrev pub procedure_of : List ℕ → ℕ → Frame → Symbol
-procedure_of tr i f = record { at = get_or tr (i + 6) 0; len = get_or tr (i + 7) 0; kind = 3; low = 0; high = 0; level = f.level; address = f.address; size = get_or tr (i + 10) 0; scope = f.scope }
-
-kind_three : kind_of 3 ≡ procedure
-unfolding kind_of
-kind_three = refl
-
 proc_row_lem : {s tr : List ℕ} (xs : List ℕ) {i : ℕ} (f : Frame) {m : Name} {ar : List Name} → HeadingAt s tr i m ar → row_of s xs (procedure_of tr i f) ≡ proc_row m (length ar) f.level f.address (scope_at s xs f.scope)
-unfolding row_of kind_of
+unfolding row_of
 proc_row_lem {s} {tr} xs {i} f {m} {ar} a = let n = head_numbers a in rw (n.text_is, n.size_is)
 
-used_at : (e : Added) {r : Made} {u : ℕ} → r ≡ made_of e → r ≡ At u → e ≡ Used u
-used_at (Used m) {r} {u} p q = let z : m ≡ u = cc in ap Used z
-used_at (NotAdded n) p q = let z : ◌≡◌ {A = ℕ} 0 1 = cc in absurd (omega arith)
+module _ (s tr xs ys : List ℕ) (i k : ℕ) (f : Frame) where
+  abbrev proc : Symbol
+  proc = procedure_of tr i f
 
-module _ (s tr xs ys : List ℕ) (i k : ℕ) (f : Frame) (e : Added) (he : Adds (fresh (rows_in s xs k) (row_of s xs (procedure_of tr i f))) s xs k (procedure_of tr i f) ys e) {r : Made} (er : r ≡ made_of e) where
-  pub heading_stop : (zs : List ℕ) → Stops r → (m : Name) (ar : List Name) → HeadingAt s tr i m ar → Headed m ar s xs k f zs r
-  unfolding head_rows
-  heading_stop zs g m ar a = of r g (answered (procedure_of tr i f) e er he)
-    where
-      of : (q : Made) → Stops q → Declared (fresh (rows_in s xs k) (row_of s xs (procedure_of tr i f))) s xs k ys q → Headed m ar s xs k f zs q
-      of (At u) t (rowed w) = absurd (t u refl)
-      of (Refused n) t (unrowed h) = unheaded {e = n} (ap (λ (o : Rows). and_rows o λ r1. arg_rows r1 (suc f.level) links (m.text ∷ scope_at s xs f.scope) ar) (ap (fresh (rows_in s xs k)) (sym (proc_row_lem xs f a)) ∙ h))
+  pub proc_declares : {y : Symbol} → y ≡ proc → Can s xs k f → HasHeading s tr i → Declares s xs k y
+  proc_declares e g h = rw e (record { sound = g.sound; named = (head_numbers h.at).named; scoped = g.scoped })
 
-  module _ {u : ℕ} (eu : r ≡ At u) where
-    pub grown : Grown (fresh (rows_in s xs k) (row_of s xs (procedure_of tr i f))) s xs k (procedure_of tr i f) ys u
+  pub heading_stop : {y : Symbol} → y ≡ proc → {e : Refusal} → Adds (fresh (rows_in s xs k) (row_of s xs y)) s xs k y ys (Err e) → (zs : List ℕ) (m : Name) (ar : List Name) → HeadingAt s tr i m ar → Headed m ar s xs k f zs (Err e)
+  unfolding head_rows Adds
+  heading_stop q {e} h zs m ar a =
+      unheaded {e = e} (ap (λ (o : Rows). and_rows o λ r1. arg_rows r1 (suc f.level) links (m.text ∷ scope_at s xs f.scope) ar) (ap (fresh (rows_in s xs k)) (sym (proc_row_lem xs f a)) ∙ (rw q at h)))
+
+  module _ {y : Symbol} (q : y ≡ proc) {u : ℕ} (he : Adds (fresh (rows_in s xs k) (row_of s xs y)) s xs k y ys (Ok u)) where
+    pub grown : Grown (fresh (rows_in s xs k) (row_of s xs proc)) s xs k proc ys u
     unfolding Adds
-    grown = rw (used_at e er eu) at he
+    grown = rw q at he
 
     pub inner_can : Can s ys u (record { scope = u; level = f.level + 1; address = 3 })
-    inner_can = record { sound = grown.sound; scoped = scoped_new _ s xs k (procedure_of tr i f) ys u kind_three grown; low = omega arith }
+    inner_can = record { sound = grown.sound; scoped = scoped_new _ s xs k proc ys u refl grown; low = omega arith }
 
-    pub heading_made : {zs : List ℕ} {q : Made} → ((l : List Name) → ListAt name_node (NameIn s) tr (i + 8) l → Declared (arg_rows (rows_in s ys u) (f.level + 1) 3 (scope_at s ys u) l) s ys u zs q)
-        → (m : Name) (ar : List Name) → HeadingAt s tr i m ar → Headed m ar s xs k f zs q
+    pub heading_made : {zs : List ℕ} {r : Result ℕ Refusal} → ((l : List Name) → ListAt name_node (NameIn s) tr (i + 8) l → Declared (arg_rows (rows_in s ys u) (f.level + 1) 3 (scope_at s ys u) l) s ys u zs r)
+        → (m : Name) (ar : List Name) → HeadingAt s tr i m ar → Headed m ar s xs k f zs r
     unfolding head_rows
-    heading_made {zs} {q} h m ar a = of q (h ar (head_numbers a).args_at)
+    heading_made {zs} {r} h m ar a = of r (h ar (head_numbers a).args_at)
       where
         scope_new : scope_at s ys u ≡ m.text ∷ scope_at s xs f.scope
         scope_new = grown.new_scope ∙ ap (λ (w : List ℕ). w ∷ scope_at s xs f.scope) (head_numbers a).text_is
@@ -351,9 +340,9 @@ module _ (s tr xs ys : List ℕ) (i k : ℕ) (f : Frame) (e : Added) (he : Adds 
         first_is = ap (λ (o : Rows). and_rows o λ r1. arg_rows r1 (suc f.level) links (m.text ∷ scope_at s xs f.scope) ar) (ap (fresh (rows_in s xs k)) (sym (proc_row_lem xs f a)) ∙ grown.is)
             ∙ ap (λ (c : Scope). arg_rows (rows_in s ys u) (suc f.level) links c ar) (sym scope_new) ∙ ap (λ (l : ℕ). arg_rows (rows_in s ys u) l links (scope_at s ys u) ar) (sym (add-one f.level))
 
-        of : (q : Made) → Declared (arg_rows (rows_in s ys u) (f.level + 1) 3 (scope_at s ys u) ar) s ys u zs q → Headed m ar s xs k f zs q
-        of (Refused n) (unrowed x) = unheaded {e = n} (first_is ∙ x)
-        of (At n) (rowed w) =
+        of : (r : Result ℕ Refusal) → Declared (arg_rows (rows_in s ys u) (f.level + 1) 3 (scope_at s ys u) ar) s ys u zs r → Headed m ar s xs k f zs r
+        of (Err e) (unrowed x) = unheaded {e = e} (first_is ∙ x)
+        of (Ok n) (rowed w) =
             let e₁ : u ≡ k + 1 = grown.one in
             headed {n = n}
             (record {
@@ -364,7 +353,7 @@ module _ (s tr xs ys : List ℕ) (i k : ℕ) (f : Frame) (e : Added) (he : Adds 
             })
 
 -- what a member's declaration gives, in the scope that the list started with
-module _ {s tr xs ys zs : List ℕ} {j k p u : ℕ} {r : Made} (l a : ℕ) (g : Grows s xs k p ys u) where
+module _ {s tr xs ys zs : List ℕ} {j k p u : ℕ} {r : Result ℕ Refusal} (l a : ℕ) (g : Grows s xs k p ys u) where
   pub as_const : ((c : Const) → ConstAt s tr j c → Declared (fresh (rows_in s ys u) (const_row c l a (scope_at s ys p))) s ys u zs r)
       → (c : Const) → Stands tr j (enc (const_node c)) → NamedConst s c → Declared (add_const l (scope_at s xs p) (rows_in s ys u) a c) s ys u zs r
   as_const h c st nm = rw (← g.scope_is) (h c (record { stands = st; named = nm }))

@@ -1,6 +1,8 @@
 -- What blocks and procedures ask and promise: rows and code together.
-use Rattle.std.specs.Prelude.{◌≡◌, List, ◌++◌, ℕ, ◌+◌, ◌*◌, ◌≤◌, length, take}
+use Rattle.std.specs.Prelude.{◌≡◌, List, ◌++◌, ℕ, ◌+◌, ◌*◌, ◌≤◌, length, take, Result, Ok, Err}
 use Rattle.numbers.specs.Limits.{max_code, draft_places, draft_share}
+use Rattle.numbers.specs.declared.refusal.Refusal.{Refusal}
+use Rattle.numbers.specs.Refusals.{number_of}
 use Rattle.numbers.specs.Stack.{links}
 use Rattle.lexer.specs.Tokens.{Name}
 use Rattle.tree.specs.Tree.{Const, Stmts, Procs, Block}
@@ -10,11 +12,7 @@ use Rattle.tree.specs.Named.{NameIn, Each, NamedConst, NamedStmts, NamedProcs, N
 use Rattle.pcode.specs.Code.{Instr}
 use Rattle.symbols.specs.Symbols.{Scope, Row, const_rows, var_rows}
 use Rattle.symbols.specs.Table.{rows_in, Sound, Scoped, Seen, Kept}
-use Rattle.emission.specs.declared.Made.{Made}
-use Rattle.emission.specs.declared.Made.TheVariants.{At, Refused as NotMade}
 use Rattle.translator.specs.declared.procedures.Place.{Place}
-use Rattle.translator.specs.declared.procedures.Done.{Done as CodeDone}
-use Rattle.translator.specs.declared.procedures.Done.TheVariants.{Finished, Refused}
 use Rattle.emission.specs.Pieces.{Piece, ◌⨾◌}
 use Rattle.emission.specs.Statements.{Env}
 use Rattle.translator.specs.Translate.{stas, body_code, Done, finished, failed, with_rows, procs_code, block_code}
@@ -28,35 +26,30 @@ inside_code cs vs ps l sc a rs p = with_rows (const_rows rs l a sc cs) λ r1. wi
 abbrev pub end_code : Env → ℕ → ℕ → Stmts → Piece
 end_code ρ a n b = stas n 1 n ⨾ body_code ρ a b
 
--- a refusal, passed on
-abbrev pub refused_of : Made → CodeDone
-refused_of (At m) = Refused 0
-refused_of (NotMade e) = Refused e
-
 -- a block can go on from here
 pub record Start (s xs ds : List ℕ) (p : Place) : Type 0 where
   pub sound : Sound s xs p.used
-  pub scoped : Scoped xs p.used p.scope
-  pub level : p.level ≤ p.used
-  pub low : p.address ≤ p.used + links
+  pub scoped : Scoped xs p.used p.frame.scope
+  pub level : p.frame.level ≤ p.used
+  pub low : p.frame.address ≤ p.used + links
   pub room : draft_places ≤ length ds
   pub most : p.n ≤ max_code
 
 -- how far it came: the table xs of k rows is ys, the draft ds up to n is es
 pub record Through (o : Done) (s xs : List ℕ) (k : ℕ) (ds : List ℕ) (n : ℕ) (ys es : List ℕ) (q : Place) : Type 0 where
   pub code : List Instr
-  pub is : o ≡ finished code (rows_in s ys q.used) q.address
+  pub is : o ≡ finished code (rows_in s ys q.used) q.frame.address
   pub sound : Sound s ys q.used
   pub above : k ≤ q.used
   pub kept : Kept 9 k xs ys
-  pub low : q.address ≤ q.used + links
+  pub low : q.frame.address ≤ q.used + links
   pub ends : q.n ≡ n + length code
   pub lies : take (draft_share * q.n) es ≡ take (draft_share * n) ds ++ drafted code
   pub most : q.n ≤ max_code
 
-pub data Means (o : Done) (s xs : List ℕ) (k : ℕ) (ds : List ℕ) (n : ℕ) (ys es : List ℕ) : CodeDone → Type 0 where
-  through : {q : Place} → Through o s xs k ds n ys es q → Means o s xs k ds n ys es (Finished q)
-  not : {e : ℕ} → o ≡ failed e → Means o s xs k ds n ys es (Refused e)
+pub data Means (o : Done) (s xs : List ℕ) (k : ℕ) (ds : List ℕ) (n : ℕ) (ys es : List ℕ) : Result Place Refusal → Type 0 where
+  through : {q : Place} → Through o s xs k ds n ys es q → Means o s xs k ds n ys es (Ok q)
+  not : {e : Refusal} → o ≡ failed (number_of e) → Means o s xs k ds n ys es (Err e)
 
 -- procedures stand there
 pub record ProcsAt (s tr : List ℕ) (i : ℕ) (t : Procs) : Type 0 where
@@ -109,8 +102,3 @@ pub record Whole (b : Block) (s ys es : List ℕ) (m k : ℕ) : Type 0 where
   pub most : m ≤ max_code
   pub sound : Sound s ys k
   pub seen : Seen ys k 0
-
--- as the answer says
-pub data Blocked (b : Block) (s ys es : List ℕ) : CodeDone → Type 0 where
-  blocked : {q : Place} → Whole b s ys es q.n q.used → Blocked b s ys es (Finished q)
-  unblocked : {e : ℕ} → block_code b ≡ failed e → Blocked b s ys es (Refused e)

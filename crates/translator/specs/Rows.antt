@@ -1,25 +1,19 @@
 -- What declarations ask and promise: the rows that a list becomes, in the table.
-use Rattle.std.specs.Prelude.{◌≡◌, Bool, true, false, List, ◌∷◌, ℕ, suc, ◌+◌, ◌≤◌, length, get_or}
+use Rattle.std.specs.Prelude.{◌≡◌, Bool, true, false, List, ◌∷◌, ℕ, suc, ◌+◌, ◌≤◌, length, get_or, Result, Ok, Err}
 use Rattle.numbers.specs.Limits.{row_share}
+use Rattle.numbers.specs.declared.refusal.Refusal.{Refusal}
+use Rattle.numbers.specs.Refusals.{number_of}
 use Rattle.numbers.specs.Stack.{links}
 use Rattle.lexer.specs.Tokens.{Name}
 use Rattle.tree.specs.Tree.{Const}
 use Rattle.tree.specs.Layout.{Node, Nodes, procedure_kind, list_kind, branch, member, enc, Stands}
 use Rattle.tree.specs.Nodes.{list_nodes, name_node, const_node, names_node}
 use Rattle.tree.specs.Named.{NameIn, Each, NamedConst}
-use Rattle.symbols.specs.declared.Added.{Added}
-use Rattle.symbols.specs.declared.Added.TheVariants.{Used, Refused as NotAdded}
+use Rattle.symbols.specs.declared.Kind.TheVariants.{Constant, Variable, Procedure}
 use Rattle.symbols.specs.declared.Symbol.{Symbol}
 use Rattle.symbols.specs.Symbols.{Rows, rows, refuse_rows, Scope, Row, and_rows, one_more, fresh, proc_row, var_rows, arg_rows}
 use Rattle.symbols.specs.Table.{rows_in, scope_at, Sound, Scoped, Kept}
-use Rattle.emission.specs.declared.Made.{Made}
-use Rattle.emission.specs.declared.Made.TheVariants.{At, Refused}
 use Rattle.translator.specs.declared.declarations.Frame.{Frame}
-
--- an answer of the table, as an answer of the translator
-abbrev pub made_of : Added → Made
-made_of (Used m) = At m
-made_of (NotAdded e) = Refused e
 
 -- declarations can go on: the rows are sound, the scope is one of theirs, and the address is one that the rows leave small
 pub record Can (s xs : List ℕ) (k : ℕ) (f : Frame) : Type 0 where
@@ -35,9 +29,9 @@ pub record Rowed (o : Rows) (s xs : List ℕ) (k : ℕ) (ys : List ℕ) (m : ℕ
   pub kept : Kept row_share k xs ys
 
 -- as the answer says
-pub data Declared (o : Rows) (s xs : List ℕ) (k : ℕ) (ys : List ℕ) : Made → Type 0 where
-  rowed : {m : ℕ} → Rowed o s xs k ys m → Declared o s xs k ys (At m)
-  unrowed : {e : ℕ} → o ≡ refuse_rows e → Declared o s xs k ys (Refused e)
+pub data Declared (o : Rows) (s xs : List ℕ) (k : ℕ) (ys : List ℕ) : Result ℕ Refusal → Type 0 where
+  rowed : {m : ℕ} → Rowed o s xs k ys m → Declared o s xs k ys (Ok m)
+  unrowed : {e : Refusal} → o ≡ refuse_rows (number_of e) → Declared o s xs k ys (Err e)
 
 -- one row more for a variable or an argument: the name of one that is checked must be new in its scope
 abbrev pub add_name : Bool → List Row → Row → Rows
@@ -49,18 +43,22 @@ abbrev pub name_rows : Bool → List Row → ℕ → ℕ → Scope → List Name
 name_rows true rs l a sc ns = var_rows rs l a sc ns
 name_rows false rs l a sc ns = arg_rows rs l a sc ns
 
--- a variable's row by its numbers
+-- a constant's row by its numbers
+abbrev pub constant_of : List ℕ → ℕ → Frame → Symbol
+constant_of tr i f = record { at = get_or tr (i + 6) 0; len = get_or tr (i + 7) 0; kind = Constant; low = get_or tr (i + 10) 0; high = get_or tr (i + 11) 0; level = f.level; address = f.address; size = 0; scope = f.scope }
+
+-- a variable's, or an argument's
 abbrev pub variable_of : List ℕ → ℕ → Frame → Symbol
-variable_of tr i f = record { at = get_or tr (i + 2) 0; len = get_or tr (i + 3) 0; kind = 2; low = 0; high = 0; level = f.level; address = f.address; size = 0; scope = f.scope }
+variable_of tr i f = record { at = get_or tr (i + 2) 0; len = get_or tr (i + 3) 0; kind = Variable; low = 0; high = 0; level = f.level; address = f.address; size = 0; scope = f.scope }
+
+-- a procedure's
+abbrev pub procedure_of : List ℕ → ℕ → Frame → Symbol
+procedure_of tr i f = record { at = get_or tr (i + 6) 0; len = get_or tr (i + 7) 0; kind = Procedure; low = 0; high = 0; level = f.level; address = f.address; size = get_or tr (i + 10) 0; scope = f.scope }
 
 -- the constant stands there
 pub record ConstAt (s tr : List ℕ) (i : ℕ) (c : Const) : Type 0 where
   pub stands : Stands tr i (enc (const_node c))
   pub named : NamedConst s c
-
-pub record HasConst (s tr : List ℕ) (i : ℕ) : Type 0 where
-  pub constant : Const
-  pub at : ConstAt s tr i constant
 
 -- a list stands there
 pub record ListAt {A : Type 0} (node : A → Node) (P : A → Type 0) (tr : List ℕ) (i : ℕ) (l : List A) : Type 0 where
@@ -107,6 +105,6 @@ pub record Head (m : Name) (ar : List Name) (s xs : List ℕ) (k : ℕ) (f : Fra
   pub inner_is : scope_at s ys (k + 1) ≡ m.text ∷ scope_at s xs f.scope
   pub more : k + 1 + length ar ≤ n
 
-pub data Headed (m : Name) (ar : List Name) (s xs : List ℕ) (k : ℕ) (f : Frame) (ys : List ℕ) : Made → Type 0 where
-  headed : {n : ℕ} → Head m ar s xs k f ys n → Headed m ar s xs k f ys (At n)
-  unheaded : {e : ℕ} → head_rows (rows_in s xs k) m ar f.level f.address (scope_at s xs f.scope) ≡ refuse_rows e → Headed m ar s xs k f ys (Refused e)
+pub data Headed (m : Name) (ar : List Name) (s xs : List ℕ) (k : ℕ) (f : Frame) (ys : List ℕ) : Result ℕ Refusal → Type 0 where
+  headed : {n : ℕ} → Head m ar s xs k f ys n → Headed m ar s xs k f ys (Ok n)
+  unheaded : {e : Refusal} → head_rows (rows_in s xs k) m ar f.level f.address (scope_at s xs f.scope) ≡ refuse_rows (number_of e) → Headed m ar s xs k f ys (Err e)

@@ -105,3 +105,7 @@ pub first_is : (xs : Numbers ℕ) (i : ℕ) (t : Node) → Stands xs i (enc t) �
 first_is xs i (word o a n) s = let f = (word_at xs i o a n s).at0 in (omega (arith, f), omega (arith, f))
 first_is xs i (literal o v) s = let f = (literal_at xs i o v s).at0 in (omega (arith, f), omega (arith, f))
 first_is xs i (branch k o ts) s = let f = (branch_at xs i k o ts s).at0 in (omega (arith, f, node_least k), omega (arith, f, node_most k))
+
+-- a kind that is not a given one has another number
+pub not_kind : {k : Kind} {n : ℕ} (a : Kind) → no_of k ≡ n → (k ≡ a → ⊥) → n ≡ no_of a → ⊥
+not_kind {k} a e f g = f (kind_is k a (e ∙ g))

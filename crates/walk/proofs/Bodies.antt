@@ -5,6 +5,8 @@ use Prim.Native.Nat.{ℕ, ◌+◌}
 use native.Mathlib.Omega.{arith}
 use lib.IntN.{ℤ}
 use lib.ListN.{length, get_or}
+use Rattle.std.proofs.Common.{Result as Answer, Ok}
+use Rattle.numbers.specs.declared.refusal.Refusal.{Refusal}
 use Rattle.tree.specs.Tree.{Stmt, assign, if_then, if_else, while, call, body, read_s, write_s, Stmts, last, more}
 use Rattle.tree.specs.Layout.{assign_kind, if_kind, while_kind, body_kind, read_kind, write_kind, member, node_no, count}
 use Rattle.tree.specs.Nodes.{list_nodes, stmt_node, stmt_nodes}
@@ -15,8 +17,6 @@ use Rattle.tree.specs.Standing.{StmtAt, HasStmt}
 use Rattle.symbols.specs.Symbols.{Row}
 use Rattle.walk.specs.declared.expressions.Env.{Env}
 use Rattle.walk.specs.declared.progress.Progress.{Progress}
-use Rattle.walk.specs.declared.progress.Outcome.{Outcome}
-use Rattle.walk.specs.declared.progress.Outcome.TheVariants.{Done}
 use Rattle.walk.specs.Walk.{State, Result, ok, stop, Walk, then, pure, walk_stmt, walk_stmts}
 use Rattle.walk.specs.Holds.{Holds, Ends, done}
 use Rattle.walk.proofs.Ends.{ends_as}
@@ -71,9 +71,9 @@ body_start_lem rs s tr e input i N vars out p n l a =
     let f = branch_at tr i body_kind 0 (stmt_nodes l) a.stands in
     along_start (BodyF rs s) tr e input i N (listed l) vars out p (n ∙ f.at2 ∙ ap count (sym (listed_nodes l))) (rw (listed_nodes l) f.members) (listed_named s l a.named)
 
-pub body_end : (rs : List Row) {e : Env} {input : List ℕ} {lv : List ℤ} {lo : List ℕ} {vars : List ℤ} {out : List ℕ} {p : Progress} (v : State) → Holds e input lv lo vars out p v → Ends e input lv lo vars out p (walk_all rs (length lo) [] p.clock.left v) (Done p)
+pub body_end : (rs : List Row) {u : Unit {0}} {e : Env} {input : List ℕ} {lv : List ℤ} {lo : List ℕ} {vars : List ℤ} {out : List ℕ} {p : Progress} (v : State) → Holds e input lv lo vars out p v → Ends e input lv lo vars out p (walk_all rs (length lo) [] p.clock.left v) p (Ok u)
 unfolding walk_all
-body_end rs {p} v h = done {q = p} v refl h (omega arith)
+body_end rs {p} v h = done v refl h (omega arith)
 
 pub the_body : {s tr : List ℕ} {i : ℕ} → get_or tr i 0 ≡ node_no body_kind → HasStmt s tr i → (l : Stmts) × StmtAt s tr i (body l)
 the_body {s} {tr} {i} k h = of (stmt_is (node_head body_kind) tr i h.stmt k h.at.stands) h.at
@@ -81,28 +81,28 @@ the_body {s} {tr} {i} k h = of (stmt_is (node_head body_kind) tr i h.stmt k h.at
     of : {t : Stmt} → StmtIs (node_head body_kind) t → StmtAt s tr i t → (l : Stmts) × StmtAt s tr i (body l)
     of (is_body l) a = (l, a)
 
-pub body_whole : (rs : List Row) (s tr : List ℕ) (i : ℕ) (e : Env) (input : List ℕ) (vars : List ℤ) (out : List ℕ) (p : Progress) {vars' : List ℤ} {out' : List ℕ} {r : Outcome} → get_or tr i 0 ≡ node_no body_kind
-    → ((l : Stmts) → StmtAt s tr i (body l) → (lv : List ℤ) (lo : List ℕ) (w : State) → Holds e input lv lo vars out p w → Ends e input lv lo vars' out' p (walk_all rs (length lo) (listed l) p.clock.left w) r)
-    → (t : Stmt) → StmtAt s tr i t → (lv : List ℤ) (lo : List ℕ) (w : State) → Holds e input lv lo vars out p w → Ends e input lv lo vars' out' p (walk_stmt rs (length lo) t p.clock.left w) r
+pub body_whole : (rs : List Row) (s tr : List ℕ) (i : ℕ) (e : Env) (input : List ℕ) (vars : List ℤ) (out : List ℕ) (p : Progress) {vars' : List ℤ} {out' : List ℕ} {r : Answer (Unit {0}) Refusal} {d : Progress} → get_or tr i 0 ≡ node_no body_kind
+    → ((l : Stmts) → StmtAt s tr i (body l) → (lv : List ℤ) (lo : List ℕ) (w : State) → Holds e input lv lo vars out p w → Ends e input lv lo vars' out' p (walk_all rs (length lo) (listed l) p.clock.left w) d r)
+    → (t : Stmt) → StmtAt s tr i t → (lv : List ℤ) (lo : List ℕ) (w : State) → Holds e input lv lo vars out p w → Ends e input lv lo vars' out' p (walk_stmt rs (length lo) t p.clock.left w) d r
 unfolding walk_stmt
-body_whole rs s tr i e input vars out p {vars'} {out'} {r} k f t a lv lo w h = of (stmt_is (node_head body_kind) tr i t k a.stands) a
+body_whole rs s tr i e input vars out p {vars'} {out'} {r} {d} k f t a lv lo w h = of (stmt_is (node_head body_kind) tr i t k a.stands) a
   where
-    of : {t : Stmt} → StmtIs (node_head body_kind) t → StmtAt s tr i t → Ends e input lv lo vars' out' p (walk_stmt rs (length lo) t p.clock.left w) r
+    of : {t : Stmt} → StmtIs (node_head body_kind) t → StmtAt s tr i t → Ends e input lv lo vars' out' p (walk_stmt rs (length lo) t p.clock.left w) d r
     of (is_body l) b = ends_as (all_is rs (length lo) l p.clock.left w) (f l b lv lo w h)
 
 -- what is none of the others is a call, which is never met
-pub call_done : (rs : List Row) {s tr : List ℕ} {i : ℕ} {e : Env} {input : List ℕ} {vars : List ℤ} {out : List ℕ} {p : Progress}
+pub call_done : (rs : List Row) {s tr : List ℕ} {i : ℕ} {e : Env} {input : List ℕ} {vars : List ℤ} {out : List ℕ} {p : Progress} {d : Unit {0}}
     → (get_or tr i 0 ≡ node_no assign_kind → ⊥) → (get_or tr i 0 ≡ node_no if_kind → ⊥) → (get_or tr i 0 ≡ node_no while_kind → ⊥) → (get_or tr i 0 ≡ node_no body_kind → ⊥) → (get_or tr i 0 ≡ node_no read_kind → ⊥) → (get_or tr i 0 ≡ node_no write_kind → ⊥)
-    → (t : Stmt) → StmtAt s tr i t → (lv : List ℤ) (lo : List ℕ) (w : State) → Holds e input lv lo vars out p w → Ends e input lv lo vars out p (walk_stmt rs (length lo) t p.clock.left w) (Done p)
+    → (t : Stmt) → StmtAt s tr i t → (lv : List ℤ) (lo : List ℕ) (w : State) → Holds e input lv lo vars out p w → Ends e input lv lo vars out p (walk_stmt rs (length lo) t p.clock.left w) p (Ok d)
 unfolding walk_stmt
-call_done rs {s} {tr} {i} {e} {input} {vars} {out} {p} h8 h9 h10 h12 h13 h14 t a lv lo w h = of t (stmt_head_lem tr i t a.stands).kind
+call_done rs {s} {tr} {i} {e} {input} {vars} {out} {p} {d} h8 h9 h10 h12 h13 h14 t a lv lo w h = of t (stmt_head_lem tr i t a.stands).kind
   where
-    of : (u : Stmt) → get_or tr i 0 ≡ stmt_no u → Ends e input lv lo vars out p (walk_stmt rs (length lo) u p.clock.left w) (Done p)
+    of : (u : Stmt) → get_or tr i 0 ≡ stmt_no u → Ends e input lv lo vars out p (walk_stmt rs (length lo) u p.clock.left w) p (Ok d)
     of (assign n x) k = absurd (h8 k)
     of (if_then c u) k = absurd (h9 k)
     of (if_else c u x) k = absurd (h9 k)
     of (while c u) k = absurd (h10 k)
-    of (call n es) k = done {q = p} w refl h (omega arith)
+    of (call n es) k = done w refl h (omega arith)
     of (body l) k = absurd (h12 k)
     of (read_s ns) k = absurd (h13 k)
     of (write_s es) k = absurd (h14 k)

@@ -1,12 +1,14 @@
 -- Laws of `if` and `while`: their parts in the tree, and how their answers give the answer of the whole.
 use mathlib.Core.Path.{◌≡◌, refl, sym, ap, ◌∙◌}
-use mathlib.Core.Bool.{false}
+use mathlib.Core.Bool.{Bool, true, false}
 use mathlib.Core.List.{List}
 use mathlib.Core.Option.{Option, none, some}
 use Prim.Native.Nat.{ℕ, zero, suc, ◌+◌, ◌≤◌, ◌<◌}
 use native.Mathlib.Omega.{arith}
 use lib.IntN.{ℤ, pos}
 use lib.ListN.{length, get_or}
+use Rattle.std.proofs.Common.{Result as Answer, Ok, Err}
+use Rattle.numbers.specs.declared.refusal.Refusal.{Refusal}
 use Rattle.numbers.specs.Arithmetic.{eq_z}
 use Rattle.tree.specs.Tree.{Cond, Stmt, while}
 use Rattle.tree.specs.Layout.{if_kind, while_kind, node_no}
@@ -17,10 +19,6 @@ use Rattle.tree.specs.Parts.{guard_cond, guard_stmt, guard_further, while_guard,
 use Rattle.symbols.specs.Symbols.{Row}
 use Rattle.walk.specs.declared.expressions.Env.{Env}
 use Rattle.walk.specs.declared.progress.Progress.{Progress}
-use Rattle.walk.specs.declared.progress.Outcome.{Outcome}
-use Rattle.walk.specs.declared.progress.Outcome.TheVariants.{Done, Refused}
-use Rattle.walk.specs.declared.statements.Tested.{Tested}
-use Rattle.walk.specs.declared.statements.Tested.TheVariants.{Passed, Failed, Stopped}
 use Rattle.walk.specs.Walk.{State, Walk, then, ◌>>◌, pure, whether, tick, tested, at_top, loop, walk_cond, walk_stmt}
 use Rattle.walk.specs.Holds.{Holds, HasState, Ends, done, Steps}
 use Rattle.walk.specs.Tests.{test_walk, part_walk, Tests}
@@ -30,14 +28,14 @@ use Rattle.walk.proofs.Ends.{ends_as, ends_from, ends_halt, ends_then, ends_less
 use Rattle.walk.proofs.Testing.{tested_then, Led, leads, tests_stop, tests_passed, on_passed, on_failed}
 
 -- the step after a part
-module _ (rs : List Row) (s tr : List ℕ) (i : ℕ) {e : Env} {input : List ℕ} {vars vars' : List ℤ} {out out' : List ℕ} {p : Progress} {r : Outcome}
-    (x : (t : Stmt) → StmtAt s tr i t → (lv : List ℤ) (lo : List ℕ) (w : State) → Holds e input lv lo vars out p w → Ends e input lv lo vars' out' p (walk_stmt rs (length lo) t p.clock.left w) r) where
-  pub part_halt : {k : ℕ} {q : Progress} → r ≡ Refused k q → (t : Stmt) → StmtAt s tr i t → (lv : List ℤ) (lo : List ℕ) (w : State) → Holds e input lv lo vars out p w → Ends e input lv lo vars' out' p (part_walk rs (length lo) t p.clock.left w) r
+module _ (rs : List Row) (s tr : List ℕ) (i : ℕ) {e : Env} {input : List ℕ} {vars vars' : List ℤ} {out out' : List ℕ} {p : Progress} {r : Answer (Unit {0}) Refusal} {q : Progress}
+    (x : (t : Stmt) → StmtAt s tr i t → (lv : List ℤ) (lo : List ℕ) (w : State) → Holds e input lv lo vars out p w → Ends e input lv lo vars' out' p (walk_stmt rs (length lo) t p.clock.left w) q r) where
+  pub part_halt : {k : Refusal} → r ≡ Err k → (t : Stmt) → StmtAt s tr i t → (lv : List ℤ) (lo : List ℕ) (w : State) → Holds e input lv lo vars out p w → Ends e input lv lo vars' out' p (part_walk rs (length lo) t p.clock.left w) q (Err k)
   part_halt y t a lv lo w h = ends_halt y (x t a lv lo w h) (λ u. tick)
 
-  pub part_tick : {q : Progress} {u : Outcome} → r ≡ Done q → Steps q (at_top q.clock.top) u
-      → (t : Stmt) → StmtAt s tr i t → (lv : List ℤ) (lo : List ℕ) (w : State) → Holds e input lv lo vars out p w → Ends e input lv lo vars' out' p (part_walk rs (length lo) t p.clock.left w) u
-  part_tick {q} {u} y f t a lv lo w h = ends_then y (x t a lv lo w h) (λ c. tick) (λ v held. rw (at_top_lem v q.clock.top held.top) at (f e input lv lo vars' out' v held))
+  pub part_tick : {u : Unit {0}} {v : Answer (Unit {0}) Refusal} {g : Progress} → r ≡ Ok u → Steps q (at_top q.clock.top) g v
+      → (t : Stmt) → StmtAt s tr i t → (lv : List ℤ) (lo : List ℕ) (w : State) → Holds e input lv lo vars out p w → Ends e input lv lo vars' out' p (part_walk rs (length lo) t p.clock.left w) g v
+  part_tick y f t a lv lo w h = ends_then y (x t a lv lo w h) (λ c. tick) (λ v held. rw (at_top_lem v q.clock.top held.top) at (f e input lv lo vars' out' v held))
 
 -- an `if`: what is walked for its `else`, if it has one
 abbrev else_walk : List Row → ℕ → Option Stmt → Walk (Unit {0})
@@ -64,31 +62,31 @@ module _ {s tr : List ℕ} {i : ℕ} (k : get_or tr i 0 ≡ node_no if_kind) (h 
   if_inner f = guard_further found.guard f
 
 -- how an `if` ends
-module _ (rs : List Row) (s tr : List ℕ) (i : ℕ) (e : Env) (input : List ℕ) (vars : List ℤ) (out : List ℕ) (p : Progress) {r : Tested} (k : get_or tr i 0 ≡ node_no if_kind)
-    (x : (t : Cond) → CondAt s tr (i + 4) t → (input : List ℕ) (lv : List ℤ) (lo out : List ℕ) (w : State) → Holds e input lv lo vars out p w → Tests e input lv lo vars out p (test_walk rs t p.clock.left w) r) where
-  abbrev Meet : List ℤ → List ℕ → Outcome → Type 0
-  Meet vars' out' q = (t : Stmt) → StmtAt s tr i t → (lv : List ℤ) (lo : List ℕ) (w : State) → Holds e input lv lo vars out p w → Ends e input lv lo vars' out' p (walk_stmt rs (length lo) t p.clock.left w) q
+module _ (rs : List Row) (s tr : List ℕ) (i : ℕ) (e : Env) (input : List ℕ) (vars : List ℤ) (out : List ℕ) (p : Progress) {r : Answer Bool Refusal} {q : Progress} (k : get_or tr i 0 ≡ node_no if_kind)
+    (x : (t : Cond) → CondAt s tr (i + 4) t → (input : List ℕ) (lv : List ℤ) (lo out : List ℕ) (w : State) → Holds e input lv lo vars out p w → Tests e input lv lo vars out p (test_walk rs t p.clock.left w) q r) where
+  abbrev Meet : List ℤ → List ℕ → Answer (Unit {0}) Refusal → Progress → Type 0
+  Meet vars' out' u g = (t : Stmt) → StmtAt s tr i t → (lv : List ℤ) (lo : List ℕ) (w : State) → Holds e input lv lo vars out p w → Ends e input lv lo vars' out' p (walk_stmt rs (length lo) t p.clock.left w) g u
 
-  pub if_stop : {m : ℕ} {q : Progress} → r ≡ Stopped m q → Meet vars out (Refused m q)
+  pub if_stop : {m : Refusal} → r ≡ Err m → Meet vars out (Err m) q
   if_stop y t a lv lo w h =
       let v = if_at k t a in
       ends_as (sym (walk_is rs t v (length lo) p.clock.left w)) (tests_stop (x v.cond (guard_cond v.guard) input lv lo out w h) y (λ z. whether (eq_z z (pos 0)) (else_walk rs (length lo) v.other) (part_walk rs (length lo) v.stmt)))
 
-  pub if_passed : {q : Progress} {j : ℕ} {vars' : List ℤ} {out' : List ℕ} {u : Outcome} → r ≡ Passed q → After tr (i + 4) j
-      → ((t : Stmt) → StmtAt s tr j t → (lv : List ℤ) (lo : List ℕ) (w : State) → Holds e input lv lo vars out q w → Ends e input lv lo vars' out' q (part_walk rs (length lo) t q.clock.left w) u) → Meet vars' out' u
+  pub if_passed : {j : ℕ} {vars' : List ℤ} {out' : List ℕ} {u : Answer (Unit {0}) Refusal} {g : Progress} → r ≡ Ok true → After tr (i + 4) j
+      → ((t : Stmt) → StmtAt s tr j t → (lv : List ℤ) (lo : List ℕ) (w : State) → Holds e input lv lo vars out q w → Ends e input lv lo vars' out' q (part_walk rs (length lo) t q.clock.left w) g u) → Meet vars' out' u g
   if_passed y f g t a lv lo w h =
       let v = if_at k t a in
       ends_as (sym (walk_is rs t v (length lo) p.clock.left w)) (on_passed (x v.cond (guard_cond v.guard) input lv lo out w h) (else_walk rs (length lo) v.other) (part_walk rs (length lo) v.stmt) y (λ u held. g v.stmt (guard_stmt v.guard f) lv lo u held))
 
-  pub if_short : {q : Progress} → r ≡ Failed q → get_or tr (i + 2) 0 < 3 → Meet vars out (Done q)
-  if_short {q} y l t a lv lo w h =
+  pub if_short : {u : Unit {0}} → r ≡ Ok false → get_or tr (i + 2) 0 < 3 → Meet vars out (Ok u) q
+  if_short y l t a lv lo w h =
       let v = if_at k t a in
       ends_as (sym (walk_is rs t v (length lo) p.clock.left w)) (on_failed (x v.cond (guard_cond v.guard) input lv lo out w h) (else_walk rs (length lo) v.other) (part_walk rs (length lo) v.stmt) y
-      (λ u held. ends_as (ap (λ (x : Option Stmt). else_walk rs (length lo) x q.clock.left u) (sym (v.short l))) (done {q = q} u refl held (omega arith))))
+      (λ u held. ends_as (ap (λ (x : Option Stmt). else_walk rs (length lo) x q.clock.left u) (sym (v.short l))) (done u refl held (omega arith))))
 
-  pub if_failed : {q : Progress} {j j₂ : ℕ} {vars' : List ℤ} {out' : List ℕ} {u : Outcome} → r ≡ Failed q → 3 ≤ get_or tr (i + 2) 0 → After tr (i + 4) j → After tr j j₂
-      → ((t : Stmt) → StmtAt s tr j₂ t → (lv : List ℤ) (lo : List ℕ) (w : State) → Holds e input lv lo vars out q w → Ends e input lv lo vars' out' q (walk_stmt rs (length lo) t q.clock.left w) u) → Meet vars' out' u
-  if_failed {q} {j} {j₂} y l f f₂ g t a lv lo w h =
+  pub if_failed : {j j₂ : ℕ} {vars' : List ℤ} {out' : List ℕ} {u : Answer (Unit {0}) Refusal} {g : Progress} → r ≡ Ok false → 3 ≤ get_or tr (i + 2) 0 → After tr (i + 4) j → After tr j j₂
+      → ((t : Stmt) → StmtAt s tr j₂ t → (lv : List ℤ) (lo : List ℕ) (w : State) → Holds e input lv lo vars out q w → Ends e input lv lo vars' out' q (walk_stmt rs (length lo) t q.clock.left w) g u) → Meet vars' out' u g
+  if_failed {j} {j₂} y l f f₂ g t a lv lo w h =
       let v = if_at k t a in
       let o = v.long l j j₂ f f₂ in
       ends_as (sym (walk_is rs t v (length lo) p.clock.left w)) (on_failed (x v.cond (guard_cond v.guard) input lv lo out w h) (else_walk rs (length lo) v.other) (part_walk rs (length lo) v.stmt) y
@@ -129,9 +127,9 @@ lap_is : (n : ℕ) (c : Walk ℤ) (s : Walk (Unit {0})) (b : ℕ) (w : State) �
 unfolding loop
 lap_is n c s b w = tested_then (c b w) (λ z. whether (eq_z z (pos 0)) (pure tt) (s >> tick >> loop n c s))
 
-lap_next : {rs : List Row} {c : Cond} {t : Stmt} {e : Env} {input : List ℕ} {lv : List ℤ} {lo : List ℕ} {p : Progress} {w : State} {vars vars' : List ℤ} {out out' : List ℕ} {q d g : Progress} (o : Lap rs c t e input lv lo p w vars out q)
-    (b : Led e input lv lo vars out q (test_walk rs c q.clock.left o.state) d false) → Ends e input lv lo vars' out' d (part_walk rs (length lo) t d.clock.left b.state) (Done g) → Lap rs c t e input lv lo p w vars' out' g
-lap_next {rs} {c} {t} {e} {input} {lv} {lo} {p} {w} {vars} {vars'} {out} {out'} {q} {d} {g} o b (done v x held less) = of o.fuel o.enough o.is
+lap_next : {rs : List Row} {c : Cond} {t : Stmt} {e : Env} {input : List ℕ} {lv : List ℤ} {lo : List ℕ} {p : Progress} {w : State} {vars vars' : List ℤ} {out out' : List ℕ} {q d g : Progress} {u : Unit {0}} (o : Lap rs c t e input lv lo p w vars out q)
+    (b : Led e input lv lo vars out q (test_walk rs c q.clock.left o.state) d false) → Ends e input lv lo vars' out' d (part_walk rs (length lo) t d.clock.left b.state) g (Ok u) → Lap rs c t e input lv lo p w vars' out' g
+lap_next {rs} {c} {t} {e} {input} {lv} {lo} {p} {w} {vars} {vars'} {out} {out'} {q} {d} {g} {u} o b (done v x held less) = of o.fuel o.enough o.is
   where
     of : (n : ℕ) → q.clock.left < n → walk_stmt rs (length lo) (while c t) p.clock.left w ≡ loop n (walk_cond rs c) (walk_stmt rs (length lo) t) q.clock.left o.state → Lap rs c t e input lv lo p w vars' out' g
     of zero m y = absurd (omega (arith, m))
@@ -151,14 +149,14 @@ module _ (rs : List Row) (s tr : List ℕ) (i : ℕ) (e : Env) (input : List ℕ
   unfolding walk_stmt
   laps_start c t a lv lo w h = record { state = w; holds = h; fuel = suc p.clock.left; enough = omega arith; is = refl; less = omega arith }
 
-  abbrev Whole : List ℤ → List ℕ → Outcome → Type 0
-  Whole vars' out' r = (t : Stmt) → StmtAt s tr i t → (lv : List ℤ) (lo : List ℕ) (w : State) → Holds e input lv lo vars₀ out₀ p w → Ends e input lv lo vars' out' p (walk_stmt rs (length lo) t p.clock.left w) r
+  abbrev Whole : List ℤ → List ℕ → Answer (Unit {0}) Refusal → Progress → Type 0
+  Whole vars' out' r g = (t : Stmt) → StmtAt s tr i t → (lv : List ℤ) (lo : List ℕ) (w : State) → Holds e input lv lo vars₀ out₀ p w → Ends e input lv lo vars' out' p (walk_stmt rs (length lo) t p.clock.left w) g r
 
-  by_while : {vars' : List ℤ} {out' : List ℕ} {r : Outcome} → get_or tr i 0 ≡ node_no while_kind
-      → ((c : Cond) (t : Stmt) → StmtAt s tr i (while c t) → (lv : List ℤ) (lo : List ℕ) (w : State) → Holds e input lv lo vars₀ out₀ p w → Ends e input lv lo vars' out' p (walk_stmt rs (length lo) (while c t) p.clock.left w) r) → Whole vars' out' r
-  by_while {vars'} {out'} {r} k f t a lv lo w h = of (stmt_is (node_head while_kind) tr i t k a.stands) a
+  by_while : {vars' : List ℤ} {out' : List ℕ} {r : Answer (Unit {0}) Refusal} {g : Progress} → get_or tr i 0 ≡ node_no while_kind
+      → ((c : Cond) (t : Stmt) → StmtAt s tr i (while c t) → (lv : List ℤ) (lo : List ℕ) (w : State) → Holds e input lv lo vars₀ out₀ p w → Ends e input lv lo vars' out' p (walk_stmt rs (length lo) (while c t) p.clock.left w) g r) → Whole vars' out' r g
+  by_while {vars'} {out'} {r} {g} k f t a lv lo w h = of (stmt_is (node_head while_kind) tr i t k a.stands) a
     where
-      of : {u : Stmt} → StmtIs (node_head while_kind) u → StmtAt s tr i u → Ends e input lv lo vars' out' p (walk_stmt rs (length lo) u p.clock.left w) r
+      of : {u : Stmt} → StmtIs (node_head while_kind) u → StmtAt s tr i u → Ends e input lv lo vars' out' p (walk_stmt rs (length lo) u p.clock.left w) g r
       of (is_while c u) b = f c u b lv lo w h
 
   module _ (vars : List ℤ) (out : List ℕ) (q : Progress) (l : Laps rs s tr i e input vars₀ out₀ p vars out q) where
@@ -169,43 +167,43 @@ module _ (rs : List Row) (s tr : List ℕ) (i : ℕ) (e : Env) (input : List ℕ
         let g = l t.0 t.1 t.2 h.lv h.lo h.state h.holds in
         record { lv = h.lv; lo = h.lo; state = g.state; holds = g.holds }
 
-    module _ {r : Tested} (x : (t : Cond) → CondAt s tr (i + 4) t → (input : List ℕ) (lv : List ℤ) (lo out : List ℕ) (w : State) → Holds e input lv lo vars out q w → Tests e input lv lo vars out q (test_walk rs t q.clock.left w) r) where
+    module _ {r : Answer Bool Refusal} {d : Progress} (x : (t : Cond) → CondAt s tr (i + 4) t → (input : List ℕ) (lv : List ℤ) (lo out : List ℕ) (w : State) → Holds e input lv lo vars out q w → Tests e input lv lo vars out q (test_walk rs t q.clock.left w) d r) where
       -- one lap more, or the end
-      on : {c : Cond} {t : Stmt} (lv : List ℤ) (lo : List ℕ) {vars' : List ℤ} {out' : List ℕ} {u : Outcome} (w : State) (g : Lap rs c t e input lv lo p w vars out q)
-          → ((n : ℕ) → Ends e input lv lo vars' out' q (then (λ z. whether (eq_z z (pos 0)) (pure tt) (lap_walk rs (length lo) c t n)) (test_walk rs c q.clock.left g.state)) u)
-          → Ends e input lv lo vars' out' p (walk_stmt rs (length lo) (while c t) p.clock.left w) u
-      on {c} {t} lv lo {vars'} {out'} {u} w g f = of g.fuel g.enough g.is
+      on : {c : Cond} {t : Stmt} (lv : List ℤ) (lo : List ℕ) {vars' : List ℤ} {out' : List ℕ} {u : Answer (Unit {0}) Refusal} {b : Progress} (w : State) (g : Lap rs c t e input lv lo p w vars out q)
+          → ((n : ℕ) → Ends e input lv lo vars' out' q (then (λ z. whether (eq_z z (pos 0)) (pure tt) (lap_walk rs (length lo) c t n)) (test_walk rs c q.clock.left g.state)) b u)
+          → Ends e input lv lo vars' out' p (walk_stmt rs (length lo) (while c t) p.clock.left w) b u
+      on {c} {t} lv lo {vars'} {out'} {u} {b} w g f = of g.fuel g.enough g.is
         where
-          of : (n : ℕ) → q.clock.left < n → walk_stmt rs (length lo) (while c t) p.clock.left w ≡ loop n (walk_cond rs c) (walk_stmt rs (length lo) t) q.clock.left g.state → Ends e input lv lo vars' out' p (walk_stmt rs (length lo) (while c t) p.clock.left w) u
+          of : (n : ℕ) → q.clock.left < n → walk_stmt rs (length lo) (while c t) p.clock.left w ≡ loop n (walk_cond rs c) (walk_stmt rs (length lo) t) q.clock.left g.state → Ends e input lv lo vars' out' p (walk_stmt rs (length lo) (while c t) p.clock.left w) b u
           of zero h y = absurd (omega (arith, h))
           of (suc n) h y = ends_as (sym (y ∙ lap_is n (walk_cond rs c) (walk_stmt rs (length lo) t) q.clock.left g.state)) (ends_from p g.less (f n))
 
-      pub laps_stop : {m : ℕ} {d : Progress} → get_or tr i 0 ≡ node_no while_kind → r ≡ Stopped m d → Whole vars out (Refused m d)
+      pub laps_stop : {m : Refusal} → get_or tr i 0 ≡ node_no while_kind → r ≡ Err m → Whole vars out (Err m) d
       laps_stop k y = by_while k (λ c t a lv lo w h.
           let g = l c t a lv lo w h in
           on lv lo w g (λ n. tests_stop (x c (guard_cond (while_guard a)) input lv lo out g.state g.holds) y (λ z. whether (eq_z z (pos 0)) (pure tt) (lap_walk rs (length lo) c t n))))
 
-      pub laps_done : {d : Progress} → get_or tr i 0 ≡ node_no while_kind → r ≡ Failed d → Whole vars out (Done d)
-      laps_done {d} k y = by_while k (λ c t a lv lo w h.
+      pub laps_done : {u : Unit {0}} → get_or tr i 0 ≡ node_no while_kind → r ≡ Ok false → Whole vars out (Ok u) d
+      laps_done k y = by_while k (λ c t a lv lo w h.
           let g = l c t a lv lo w h in
-          on lv lo w g (λ n. on_failed (x c (guard_cond (while_guard a)) input lv lo out g.state g.holds) (pure tt) (lap_walk rs (length lo) c t n) y (λ v held. done {q = d} v refl held (omega arith))))
+          on lv lo w g (λ n. on_failed (x c (guard_cond (while_guard a)) input lv lo out g.state g.holds) (pure tt) (lap_walk rs (length lo) c t n) y (λ v held. done v refl held (omega arith))))
 
-      module _ {d : Progress} (y : r ≡ Passed d) {j : ℕ} (f : After tr (i + 4) j) (vars' : List ℤ) (out' : List ℕ) {u : Outcome}
-          (part : (t : Stmt) → StmtAt s tr j t → (lv : List ℤ) (lo : List ℕ) (w : State) → Holds e input lv lo vars out d w → Ends e input lv lo vars' out' d (part_walk rs (length lo) t d.clock.left w) u) where
-        pub laps_halt : {m : ℕ} {g : Progress} → get_or tr i 0 ≡ node_no while_kind → u ≡ Refused m g → Whole vars' out' u
+      module _ (y : r ≡ Ok true) {j : ℕ} (f : After tr (i + 4) j) (vars' : List ℤ) (out' : List ℕ) {u : Answer (Unit {0}) Refusal} {g : Progress}
+          (part : (t : Stmt) → StmtAt s tr j t → (lv : List ℤ) (lo : List ℕ) (w : State) → Holds e input lv lo vars out d w → Ends e input lv lo vars' out' d (part_walk rs (length lo) t d.clock.left w) g u) where
+        pub laps_halt : {m : Refusal} → get_or tr i 0 ≡ node_no while_kind → u ≡ Err m → Whole vars' out' (Err m) g
         laps_halt k z = by_while k (λ c t a lv lo w h.
             let g = l c t a lv lo w h in
             on lv lo w g (λ n. on_passed (x c (guard_cond (while_guard a)) input lv lo out g.state g.holds) (pure tt) (lap_walk rs (length lo) c t n) y
             (λ v held. ends_as (sym (then_assoc (walk_stmt rs (length lo) t d.clock.left v) (λ o. tick) (λ o. loop n (walk_cond rs c) (walk_stmt rs (length lo) t)))) (ends_halt z (part t (guard_stmt (while_guard a) f) lv lo v held) (λ o. loop n (walk_cond rs c) (walk_stmt rs (length lo) t))))))
 
-        pub laps_more : {g : Progress} → u ≡ Done g → Laps rs s tr i e input vars₀ out₀ p vars' out' g
-        laps_more {g} z c t a lv lo w h =
+        pub laps_more : {v : Unit {0}} → u ≡ Ok v → Laps rs s tr i e input vars₀ out₀ p vars' out' g
+        laps_more z c t a lv lo w h =
             let o = l c t a lv lo w h in
             let b = tests_passed (x c (guard_cond (while_guard a)) input lv lo out o.state o.holds) y in
             lap_next o b (rw z at (part t (guard_stmt (while_guard a) f) lv lo b.state b.holds))
 
-        pub laps_less : {g : Progress} → get_or tr i 0 ≡ node_no while_kind → HasStmt s tr i → HasState e input vars₀ out₀ p → u ≡ Done g → g.clock.left < q.clock.left
-        laps_less {g} k here h z =
+        pub laps_less : {v : Unit {0}} → get_or tr i 0 ≡ node_no while_kind → HasStmt s tr i → HasState e input vars₀ out₀ p → u ≡ Ok v → g.clock.left < q.clock.left
+        laps_less k here h z =
             let t = the_while k here in
             let o = l t.0 t.1 t.2 h.lv h.lo h.state h.holds in
             let b = tests_passed (x t.0 (guard_cond (while_guard t.2)) input h.lv h.lo out o.state o.holds) y in

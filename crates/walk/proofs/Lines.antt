@@ -11,19 +11,18 @@ use lib.Dec.{leb, ltb}
 use lib.ListN.{length, drop, length-append, length-drop}
 use lib.Seq.{take_at, drop_at, drop-drop}
 use borrow.Author.Tests.{lt-ltb, le-ltb, leb-true}
+use Rattle.std.proofs.Common.{Result as Answer, Ok, Err}
+use Rattle.numbers.specs.declared.refusal.Refusal.{Refusal}
+use Rattle.numbers.specs.declared.refusal.Refusal.TheVariants.{BudgetSpent, CellOutside, BadEntry, OutputFull}
+use Rattle.numbers.specs.Refusals.{number_of}
 use Rattle.numbers.specs.Panel.{budget_spent, cell_outside, bad_entry, output_full}
 use Rattle.numbers.specs.Limits.{max_cells}
 use Rattle.numbers.specs.Lent.{onto}
 use Rattle.numbers.specs.Screen.{prompt, fits_in}
 use Rattle.numbers.specs.Line.{entry}
-use Rattle.numbers.specs.declared.line.Taken.{Taken}
-use Rattle.numbers.specs.declared.line.Taken.TheVariants.{Got, Bad}
-use Rattle.numbers.specs.declared.screen.Put.{Put}
-use Rattle.numbers.specs.declared.screen.Put.TheVariants.{At, Full}
 use Rattle.numbers.specs.Answers.{Takes, Took, Puts, Wrote, Kept, spliced}
 use Rattle.walk.specs.declared.expressions.Env.{Env}
 use Rattle.walk.specs.declared.progress.Progress.{Progress}
-use Rattle.walk.specs.declared.reading.Entered.TheVariants.{Number, Stopped}
 use Rattle.walk.specs.Walk.{State, Result, stop, refuse, got_line, read_line, took_line}
 use Rattle.walk.specs.Holds.{Holds, read, unread, Enters}
 use Rattle.walk.proofs.Steps.{step_on, refuse_on, spent_unless}
@@ -59,48 +58,50 @@ read_spent room w = of (ltb w.top max_cells)
 
 -- a refusal where p stands
 module _ (input before : List ℕ) (p : Progress) where
-  stays : (k : ℕ) → ((e : Env) (lv : List ℤ) (lo : List ℕ) (vars : List ℤ) (w : State) → Holds e input lv lo vars before p w → read_line (length lo) p.clock.left w ≡ stop k p.clock.left w) → Enters input before before p (Stopped k p)
+  stays : (k : Refusal) → ((e : Env) (lv : List ℤ) (lo : List ℕ) (vars : List ℤ) (w : State) → Holds e input lv lo vars before p w → read_line (length lo) p.clock.left w ≡ stop (number_of k) p.clock.left w) → Enters input before before p p (Err k)
   stays k f = record {
-    reads = λ e lv lo vars w h. unread {k = k} {q = p} w (f e lv lo vars w h) h (omega arith);
-    top = λ z q x. let n : ◌≡◌ {A = ℕ} 0 1 = cc in absurd (omega arith);
+    reads = λ e lv lo vars w h. unread {k = k} w (f e lv lo vars w h) h (omega arith);
+    top = λ z x. let n : ◌≡◌ {A = ℕ} 0 1 = cc in absurd (omega arith);
   }
 
-  pub enter_spent : p.clock.left ≡ 0 → Enters input before before p (Stopped budget_spent p)
-  enter_spent z = stays budget_spent (λ e lv lo vars w h. rw z (read_spent (length lo) w))
+  pub enter_spent : p.clock.left ≡ 0 → Enters input before before p p (Err BudgetSpent)
+  enter_spent z = stays BudgetSpent (λ e lv lo vars w h. rw z (read_spent (length lo) w))
 
   module _ (l : p.clock.left ≡ 0 → ⊥) where
-    pub enter_full : max_cells ≤ p.clock.top → Enters input before before p (Stopped cell_outside p)
+    pub enter_full : max_cells ≤ p.clock.top → Enters input before before p p (Err CellOutside)
     unfolding read_line
-    enter_full f = stays cell_outside (λ e lv lo vars w h. rw (le-ltb w.top max_cells (omega (arith, h.top)), read_line) (refuse_on cell_outside w p.clock.left l))
+    enter_full f = stays CellOutside (λ e lv lo vars w h. rw (le-ltb w.top max_cells (omega (arith, h.top)), read_line) (refuse_on cell_outside w p.clock.left l))
 
     module _ (f : p.clock.top < max_cells) where
       line_is : (e : Env) (lv : List ℤ) (lo : List ℕ) (vars : List ℤ) (w : State) → Holds e input lv lo vars before p w → read_line (length lo) p.clock.left w ≡ got_line (length lo) (entry (drop p.at input)) p.clock.left w
       unfolding read_line
       line_is e lv lo vars w h = rw (lt-ltb w.top max_cells (omega (arith, h.top)), read_line) (rw h.rest)
 
-      pub enter_bad : (t : Taken) → t ≡ Bad → Takes input p.at t → Enters input before before p (Stopped bad_entry p)
-      enter_bad t x k = stays bad_entry (λ e lv lo vars w h. line_is e lv lo vars w h ∙ rw (rw x at k) (refuse_on bad_entry w p.clock.left l))
+      pub enter_bad : {t : Answer (ℤ × ℕ) Refusal} {m : Refusal} → t ≡ Err m → Takes input p.at t → Enters input before before p p (Err m)
+      enter_bad {m} x k =
+          let f : (m ≡ BadEntry) × (entry (drop p.at input) ≡ none) = rw x at k in
+          rw f.0 (stays BadEntry (λ e lv lo vars w h. line_is e lv lo vars w h ∙ rw f.1 (refuse_on bad_entry w p.clock.left l)))
 
-      module _ (t : Taken) (z : ℤ) (n : ℕ) (x : t ≡ Got z n) (k : Takes input p.at t) where
+      module _ {t : Answer (ℤ × ℕ) Refusal} (z : ℤ) (n : ℕ) (x : t ≡ Ok (z, n)) (k : Takes input p.at t) where
         took : Took input p.at z n
         took = rw x at k
 
         room_is : (e : Env) (lv : List ℤ) (lo : List ℕ) (vars : List ℤ) (w : State) → Holds e input lv lo vars before p w → fits_in (length lo) w.out prompt ≡ leb (p.written + length prompt) (length before)
         room_is e lv lo vars w h = rw (h.written, h.out_is, onto_length lo w.out h.fits)
 
-        pub enter_unfit : (u : Put) (after : List ℕ) → u ≡ Full → Puts prompt p.written before after u → Enters input before after p (Stopped output_full p)
-        enter_unfit u after y v =
-            let q : Kept prompt p.written before after = rw y at v in
-            rw q.same (stays output_full (λ e lv lo vars w h. line_is e lv lo vars w h ∙ rw took.value (rw (room_is e lv lo vars w h ∙ q.full) (refuse_on output_full w p.clock.left l))))
+        pub enter_unfit : {u : Answer ℕ Refusal} {m : Refusal} (after : List ℕ) → u ≡ Err m → Puts prompt p.written before after u → Enters input before after p p (Err m)
+        enter_unfit {m} after y v =
+            let g : (m ≡ OutputFull) × Kept prompt p.written before after = rw y at v in
+            let q = g.1 in
+            rw (g.0, q.same) (stays OutputFull (λ e lv lo vars w h. line_is e lv lo vars w h ∙ rw took.value (rw (room_is e lv lo vars w h ∙ q.full) (refuse_on output_full w p.clock.left l))))
 
-        pub enter_on : (u : Put) (after : List ℕ) (m : ℕ) (y : ℤ) (g : Progress) → u ≡ At m → Puts prompt p.written before after u → y ≡ z
-            → g ≡ entered p n m → Enters input before after p (Number y g)
-        enter_on u after m y g s v d i =
+        pub enter_on : {u : Answer ℕ Refusal} (after : List ℕ) (m : ℕ) (y : ℤ) → u ≡ Ok m → Puts prompt p.written before after u → y ≡ z → Enters input before after p (entered p n m) (Ok y)
+        enter_on after m y s v d =
             let q : Wrote prompt p.written before after m = rw s at v in
-            rw (d, i) (record {
+            rw d (record {
               reads = λ e lv lo vars w h.
                   let fit : length w.out + length prompt ≤ length lo = leb-true (length w.out + length prompt) (length lo) (room_is e lv lo vars w h ∙ q.fits) in
-                  read {z = z} {q = entered p n m} (took_line w)
+                  read {z = z} (took_line w)
                   (line_is e lv lo vars w h ∙ rw took.value (rw (room_is e lv lo vars w h ∙ q.fits) (step_on z (took_line w) w p.clock.left l)))
                   (record {
                     top = ap suc h.top ∙ sym (add-one p.clock.top);
@@ -114,5 +115,5 @@ module _ (input before : List ℕ) (p : Progress) where
                     few = omega (arith, h.few, l);
                   })
                   (omega arith);
-              top = λ a b c. let j : b ≡ entered p n m = cc in rw j (omega arith);
+              top = λ a c. omega arith;
             })

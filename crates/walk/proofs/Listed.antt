@@ -5,6 +5,8 @@ use Prim.Native.Nat.{ℕ, ◌+◌, ◌≤◌}
 use native.Mathlib.Omega.{arith}
 use lib.IntN.{ℤ}
 use lib.ListN.{length, get_or, drop, length-append}
+use Rattle.std.proofs.Common.{Result as Answer, Ok}
+use Rattle.numbers.specs.declared.refusal.Refusal.{Refusal}
 use Rattle.numbers.specs.Screen.{newline}
 use Rattle.lexer.specs.Tokens.{Name}
 use Rattle.tree.specs.Tree.{Exp, Stmt, read_s, write_s}
@@ -17,8 +19,6 @@ use Rattle.tree.specs.Standing.{StmtAt, HasStmt}
 use Rattle.symbols.specs.Symbols.{Row}
 use Rattle.walk.specs.declared.expressions.Env.{Env}
 use Rattle.walk.specs.declared.progress.Progress.{Progress}
-use Rattle.walk.specs.declared.progress.Outcome.{Outcome}
-use Rattle.walk.specs.declared.progress.Outcome.TheVariants.{Done}
 use Rattle.walk.specs.Walk.{State, then, put_number, walk_exp, walk_reads, walk_writes, walk_stmt}
 use Rattle.walk.specs.Holds.{Holds, HasState, Ends, done, read_walk, write_walk, Writes}
 use Rattle.walk.proofs.Exps.{then_assoc}
@@ -48,9 +48,9 @@ reads_start rs s tr e input i N vars out p n ns a =
     let f = branch_at tr i read_kind 0 (list_nodes name_node ns) a.stands in
     along_start (ReadsF rs s) tr e input i N ns vars out p (n ∙ f.at2) f.members a.named
 
-pub reads_end : (rs : List Row) {e : Env} {input : List ℕ} {lv : List ℤ} {lo : List ℕ} {vars : List ℤ} {out : List ℕ} {p : Progress} (v : State) → Holds e input lv lo vars out p v → Ends e input lv lo vars out p (walk_reads rs (length lo) [] p.clock.left v) (Done p)
+pub reads_end : (rs : List Row) {u : Unit {0}} {e : Env} {input : List ℕ} {lv : List ℤ} {lo : List ℕ} {vars : List ℤ} {out : List ℕ} {p : Progress} (v : State) → Holds e input lv lo vars out p v → Ends e input lv lo vars out p (walk_reads rs (length lo) [] p.clock.left v) p (Ok u)
 unfolding walk_reads
-reads_end rs {p} v h = done {q = p} v refl h (omega arith)
+reads_end rs {p} v h = done v refl h (omega arith)
 
 module _ {s tr : List ℕ} {i : ℕ} where
   pub the_read : get_or tr i 0 ≡ node_no read_kind → HasStmt s tr i → (ns : List Name) × StmtAt s tr i (read_s ns)
@@ -59,13 +59,13 @@ module _ {s tr : List ℕ} {i : ℕ} where
       of : {t : Stmt} → StmtIs (node_head read_kind) t → StmtAt s tr i t → (ns : List Name) × StmtAt s tr i (read_s ns)
       of (is_read ns) a = (ns, a)
 
-pub reads_whole : (rs : List Row) (s tr : List ℕ) (i : ℕ) (e : Env) (input : List ℕ) (vars : List ℤ) (out : List ℕ) (p : Progress) {vars' : List ℤ} {out' : List ℕ} {r : Outcome} → get_or tr i 0 ≡ node_no read_kind
-    → ((ns : List Name) → StmtAt s tr i (read_s ns) → (lv : List ℤ) (lo : List ℕ) (w : State) → Holds e input lv lo vars out p w → Ends e input lv lo vars' out' p (walk_reads rs (length lo) ns p.clock.left w) r)
-    → (t : Stmt) → StmtAt s tr i t → (lv : List ℤ) (lo : List ℕ) (w : State) → Holds e input lv lo vars out p w → Ends e input lv lo vars' out' p (walk_stmt rs (length lo) t p.clock.left w) r
+pub reads_whole : (rs : List Row) (s tr : List ℕ) (i : ℕ) (e : Env) (input : List ℕ) (vars : List ℤ) (out : List ℕ) (p : Progress) {vars' : List ℤ} {out' : List ℕ} {r : Answer (Unit {0}) Refusal} {d : Progress} → get_or tr i 0 ≡ node_no read_kind
+    → ((ns : List Name) → StmtAt s tr i (read_s ns) → (lv : List ℤ) (lo : List ℕ) (w : State) → Holds e input lv lo vars out p w → Ends e input lv lo vars' out' p (walk_reads rs (length lo) ns p.clock.left w) d r)
+    → (t : Stmt) → StmtAt s tr i t → (lv : List ℤ) (lo : List ℕ) (w : State) → Holds e input lv lo vars out p w → Ends e input lv lo vars' out' p (walk_stmt rs (length lo) t p.clock.left w) d r
 unfolding walk_stmt
-reads_whole rs s tr i e input vars out p {vars'} {out'} {r} k f t a lv lo w h = of (stmt_is (node_head read_kind) tr i t k a.stands) a
+reads_whole rs s tr i e input vars out p {vars'} {out'} {r} {d} k f t a lv lo w h = of (stmt_is (node_head read_kind) tr i t k a.stands) a
   where
-    of : {t : Stmt} → StmtIs (node_head read_kind) t → StmtAt s tr i t → Ends e input lv lo vars' out' p (walk_stmt rs (length lo) t p.clock.left w) r
+    of : {t : Stmt} → StmtIs (node_head read_kind) t → StmtAt s tr i t → Ends e input lv lo vars' out' p (walk_stmt rs (length lo) t p.clock.left w) d r
     of (is_read ns) b = f ns b lv lo w h
 
 -- the expressions of a `write`
@@ -85,8 +85,8 @@ writes_start rs s tr e i N vars out p n es a input =
     let f = branch_at tr i write_kind 0 (exp_nodes es) a.stands in
     along_start (WritesF rs s) tr e input i N es vars out p (n ∙ f.at2) f.members a.named
 
-pub writes_end : (rs : List Row) {e : Env} {input : List ℕ} {lv : List ℤ} {lo : List ℕ} {vars : List ℤ} {before after : List ℕ} {p : Progress} {r : Outcome} → Writes newline before after p r
-    → (v : State) → Holds e input lv lo vars before p v → Ends e input lv lo vars after p (walk_writes rs (length lo) [] p.clock.left v) r
+pub writes_end : (rs : List Row) {e : Env} {input : List ℕ} {lv : List ℤ} {lo : List ℕ} {vars : List ℤ} {before after : List ℕ} {p : Progress} {r : Answer (Unit {0}) Refusal} {d : Progress} → Writes newline before after p d r
+    → (v : State) → Holds e input lv lo vars before p v → Ends e input lv lo vars after p (walk_writes rs (length lo) [] p.clock.left v) d r
 unfolding walk_writes
 writes_end rs {e} {input} {lv} {lo} {vars} f v h = f e input lv lo vars v h
 
@@ -96,11 +96,11 @@ the_write {s} {tr} {i} k h = of (stmt_is (node_head write_kind) tr i h.stmt k h.
     of : {t : Stmt} → StmtIs (node_head write_kind) t → StmtAt s tr i t → (es : List Exp) × StmtAt s tr i (write_s es)
     of (is_write es) a = (es, a)
 
-pub writes_whole : (rs : List Row) (s tr : List ℕ) (i : ℕ) (e : Env) (vars : List ℤ) (out : List ℕ) (p : Progress) {out' : List ℕ} {r : Outcome} → get_or tr i 0 ≡ node_no write_kind
-    → ((es : List Exp) → StmtAt s tr i (write_s es) → (input : List ℕ) (lv : List ℤ) (lo : List ℕ) (w : State) → Holds e input lv lo vars out p w → Ends e input lv lo vars out' p (walk_writes rs (length lo) es p.clock.left w) r)
-    → (t : Stmt) → StmtAt s tr i t → (input : List ℕ) (lv : List ℤ) (lo : List ℕ) (w : State) → Holds e input lv lo vars out p w → Ends e input lv lo vars out' p (walk_stmt rs (length lo) t p.clock.left w) r
+pub writes_whole : (rs : List Row) (s tr : List ℕ) (i : ℕ) (e : Env) (vars : List ℤ) (out : List ℕ) (p : Progress) {out' : List ℕ} {r : Answer (Unit {0}) Refusal} {d : Progress} → get_or tr i 0 ≡ node_no write_kind
+    → ((es : List Exp) → StmtAt s tr i (write_s es) → (input : List ℕ) (lv : List ℤ) (lo : List ℕ) (w : State) → Holds e input lv lo vars out p w → Ends e input lv lo vars out' p (walk_writes rs (length lo) es p.clock.left w) d r)
+    → (t : Stmt) → StmtAt s tr i t → (input : List ℕ) (lv : List ℤ) (lo : List ℕ) (w : State) → Holds e input lv lo vars out p w → Ends e input lv lo vars out' p (walk_stmt rs (length lo) t p.clock.left w) d r
 unfolding walk_stmt
-writes_whole rs s tr i e vars out p {out'} {r} k f t a input lv lo w h = of (stmt_is (node_head write_kind) tr i t k a.stands) a
+writes_whole rs s tr i e vars out p {out'} {r} {d} k f t a input lv lo w h = of (stmt_is (node_head write_kind) tr i t k a.stands) a
   where
-    of : {t : Stmt} → StmtIs (node_head write_kind) t → StmtAt s tr i t → Ends e input lv lo vars out' p (walk_stmt rs (length lo) t p.clock.left w) r
+    of : {t : Stmt} → StmtIs (node_head write_kind) t → StmtAt s tr i t → Ends e input lv lo vars out' p (walk_stmt rs (length lo) t p.clock.left w) d r
     of (is_write es) b = f es b input lv lo w h

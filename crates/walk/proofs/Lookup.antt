@@ -8,27 +8,28 @@ use lib.IntN.{ℤ, pos}
 use lib.ListN.{length, get_or}
 use Rattle.numbers.specs.Limits.{greatest}
 use Rattle.numbers.specs.Stack.{links}
-use Rattle.symbols.specs.declared.Found.{Found}
-use Rattle.symbols.specs.declared.Found.TheVariants.{At, Nothing}
+use Rattle.std.proofs.Common.{Option as Found, Some, None}
+use Rattle.symbols.specs.declared.Kind.{Kind as CodeKind}
+use Rattle.symbols.specs.declared.Kind.TheVariants.{Constant, Variable, Procedure}
 use Rattle.symbols.specs.declared.Symbol.{Symbol}
 use Rattle.symbols.specs.Symbols.{Kind, main_scope, Row, find}
-use Rattle.symbols.specs.Table.{field, scope_at, kind_of, value_of, row_at, rows_in, symbol_at, Sound, Hit, Finds}
+use Rattle.symbols.specs.Table.{field, kind, scope_at, kind_for, value_of, row_at, rows_in, symbol_at, Sound, Hit, Finds}
 use Rattle.symbols.specs.Chains.{scope_main}
-use Rattle.symbols.specs.ByNumbers.{kind_const, kind_var, kind_proc}
+use Rattle.symbols.specs.ByNumbers.{coded_for}
 use Rattle.walk.specs.Walk.{value_by, value_in, place_in}
 
-module _ (s xs : List ℕ) (k : ℕ) (w : List ℕ) (r : Found) (f : Finds s xs k r (find (rows_in s xs k) w (scope_at s xs 0))) where
-  is_none : r ≡ Nothing → find (rows_in s xs k) w main_scope ≡ none
+module _ (s xs : List ℕ) (k : ℕ) (w : List ℕ) (r : Found ℕ) (f : Finds s xs k r (find (rows_in s xs k) w (scope_at s xs 0))) where
+  is_none : r ≡ None → find (rows_in s xs k) w main_scope ≡ none
   unfolding Finds
   is_none e = ap (find (rows_in s xs k) w) (sym (scope_main s xs)) ∙ (rw e at f)
 
-  pub nothing_value : (vs : List ℤ) → r ≡ Nothing → pos 0 ≡ value_in (find (rows_in s xs k) w main_scope) vs
+  pub nothing_value : (vs : List ℤ) → r ≡ None → pos 0 ≡ value_in (find (rows_in s xs k) w main_scope) vs
   nothing_value vs e = rw (is_none e)
 
-  pub nothing_place : r ≡ Nothing → 0 ≡ place_in (find (rows_in s xs k) w main_scope)
+  pub nothing_place : r ≡ None → 0 ≡ place_in (find (rows_in s xs k) w main_scope)
   nothing_place e = rw (is_none e)
 
-  module _ (i : ℕ) (e : r ≡ At i) where
+  module _ (i : ℕ) (e : r ≡ Some i) where
     hit : Hit s xs k i (find (rows_in s xs k) w (scope_at s xs 0))
     unfolding Finds
     hit = rw e at f
@@ -43,20 +44,20 @@ module _ (s xs : List ℕ) (k : ℕ) (w : List ℕ) (r : Found) (f : Finds s xs 
       pub row_small : ((j : ℕ) → j < k → value_of (field xs j 9) (field xs j 10) ≤ greatest) → y.low + 4294967296 * y.high ≤ greatest
       row_small h = rw d (h i hit.below)
 
-      value_by_lem : (vs : List ℤ) → value_in (find (rows_in s xs k) w main_scope) vs ≡ value_by (row_at s xs i) (kind_of y.kind) vs
+      value_by_lem : (vs : List ℤ) → value_in (find (rows_in s xs k) w main_scope) vs ≡ value_by (row_at s xs i) (kind_for y.kind) vs
       unfolding row_at
-      value_by_lem vs = ap (λ (o : Option Row). value_in o vs) row_is ∙ rw d
+      value_by_lem vs = ap (λ (o : Option Row). value_in o vs) row_is ∙ ap (λ (a : Kind). value_by (row_at s xs i) a vs) (sym (ap (λ (u : Symbol). kind_for u.kind) d ∙ coded_for (kind xs i)))
 
-      pub const_value : (vs : List ℤ) → y.kind ≡ 1 → pos (y.low + 4294967296 * y.high) ≡ value_in (find (rows_in s xs k) w main_scope) vs
+      pub const_value : (vs : List ℤ) → y.kind ≡ Constant → pos (y.low + 4294967296 * y.high) ≡ value_in (find (rows_in s xs k) w main_scope) vs
       unfolding row_at
-      const_value vs q = sym (value_by_lem vs ∙ ap (λ (a : Kind). value_by (row_at s xs i) a vs) (kind_const y.kind q) ∙ rw d)
+      const_value vs q = sym (value_by_lem vs ∙ ap (λ (a : CodeKind). value_by (row_at s xs i) (kind_for a) vs) q ∙ rw d)
 
-      pub var_value : (vs : List ℤ) (p : ℕ) (z : ℤ) → y.kind ≡ 2 → p ≡ y.address - links → z ≡ get_or vs p (pos 0) → z ≡ value_in (find (rows_in s xs k) w main_scope) vs
+      pub var_value : (vs : List ℤ) (p : ℕ) (z : ℤ) → y.kind ≡ Variable → p ≡ y.address - links → z ≡ get_or vs p (pos 0) → z ≡ value_in (find (rows_in s xs k) w main_scope) vs
       unfolding row_at
-      var_value vs p z q a b = b ∙ rw (a, d) (sym (value_by_lem vs ∙ ap (λ (a : Kind). value_by (row_at s xs i) a vs) (kind_var y.kind q)))
+      var_value vs p z q a b = b ∙ rw (a, d) (sym (value_by_lem vs ∙ ap (λ (a : CodeKind). value_by (row_at s xs i) (kind_for a) vs) q))
 
-      pub other_value : (vs : List ℤ) → (y.kind ≡ 1 → ⊥) → (y.kind ≡ 2 → ⊥) → pos 0 ≡ value_in (find (rows_in s xs k) w main_scope) vs
-      other_value vs g h = sym (value_by_lem vs ∙ ap (λ (a : Kind). value_by (row_at s xs i) a vs) (kind_proc y.kind g h))
+      pub other_value : (vs : List ℤ) → y.kind ≡ Procedure → pos 0 ≡ value_in (find (rows_in s xs k) w main_scope) vs
+      other_value vs q = sym (value_by_lem vs ∙ ap (λ (a : CodeKind). value_by (row_at s xs i) (kind_for a) vs) q)
 
       pub row_place : (p : ℕ) → p ≡ y.address - links → p ≡ place_in (find (rows_in s xs k) w main_scope)
       unfolding row_at

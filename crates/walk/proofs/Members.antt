@@ -5,14 +5,14 @@ use Prim.Native.Nat.{ℕ, ◌+◌, ◌≤◌, ◌<◌}
 use native.Mathlib.Omega.{arith}
 use lib.IntN.{ℤ}
 use lib.ListN.{length}
+use Rattle.std.proofs.Common.{Result as Answer, Ok, Err}
+use Rattle.numbers.specs.declared.refusal.Refusal.{Refusal}
 use Rattle.tree.specs.Layout.{Node, count, enc, encs, Stands}
 use Rattle.tree.specs.Nodes.{list_nodes}
 use Rattle.tree.specs.Named.{Each}
 use Rattle.tree.specs.Reading.{two_at, After}
 use Rattle.walk.specs.declared.expressions.Env.{Env}
 use Rattle.walk.specs.declared.progress.Progress.{Progress}
-use Rattle.walk.specs.declared.progress.Outcome.{Outcome}
-use Rattle.walk.specs.declared.progress.Outcome.TheVariants.{Done, Refused}
 use Rattle.walk.specs.Walk.{State, Walk, then}
 use Rattle.walk.specs.Holds.{Holds, HasState, Ends, done}
 use Rattle.walk.proofs.Ends.{ends_as, ends_from, ends_halt}
@@ -58,12 +58,12 @@ module _ (F : Family) (tr : List ℕ) (e : Env) (input : List ℕ) (i N : ℕ) (
     pub along_held : HasState e input vars₀ out₀ p → HasState e input vars out q
     along_held h = let s = l.so h.lv h.lo h.state h.holds in record { lv = h.lv; lo = h.lo; state = s.state; holds = s.holds }
 
-    module _ (lv : List ℤ) (lo : List ℕ) (w : State) (h : Holds e input lv lo vars₀ out₀ p w) (vars' : List ℤ) (out' : List ℕ) (r : Outcome) where
+    module _ (lv : List ℤ) (lo : List ℕ) (w : State) (h : Holds e input lv lo vars₀ out₀ p w) (vars' : List ℤ) (out' : List ℕ) (r : Answer (Unit {0}) Refusal) (d : Progress) where
       abbrev Whole : Type 0
-      Whole = Ends e input lv lo vars' out' p (F.gen (length lo) all p.clock.left w) r
+      Whole = Ends e input lv lo vars' out' p (F.gen (length lo) all p.clock.left w) d r
 
       -- no member is left
-      pub along_done : N ≤ k → (f : Walk (Unit {0})) → ((b : ℕ) (v : State) → F.gen (length lo) [] b v ≡ f b v) → ((v : State) → Holds e input lv lo vars out q v → Ends e input lv lo vars' out' q (f q.clock.left v) r) → Whole
+      pub along_done : N ≤ k → (f : Walk (Unit {0})) → ((b : ℕ) (v : State) → F.gen (length lo) [] b v ≡ f b v) → ((v : State) → Holds e input lv lo vars out q v → Ends e input lv lo vars' out' q (f q.clock.left v) d r) → Whole
       unfolding list_nodes count
       along_done n f g x = of l.rest l.counted (l.so lv lo w h)
         where
@@ -81,22 +81,22 @@ module _ (F : Family) (tr : List ℕ) (e : Env) (input : List ℕ) (i N : ℕ) (
           of [] c st nm = absurd (omega (arith, c))
           of (a ∷ u) c st nm = let two = two_at tr j (F.node a) (list_nodes F.node u) st in (a, (two.one, (nm.0, omega (arith, two.fits, two.least))))
 
-      module _ (vars' : List ℤ) (out' : List ℕ) {r : Outcome} (x : (a : F.A) → Stands tr j (enc (F.node a)) → F.In a → (lv : List ℤ) (lo : List ℕ) (w : State) → Holds e input lv lo vars out q w → Ends e input lv lo vars' out' q (F.run (length lo) a q.clock.left w) r) where
-        pub along_halt : {m : ℕ} {d : Progress} → r ≡ Refused m d → (lv : List ℤ) (lo : List ℕ) (w : State) → Holds e input lv lo vars₀ out₀ p w → Ends e input lv lo vars' out' p (F.gen (length lo) all p.clock.left w) r
+      module _ (vars' : List ℤ) (out' : List ℕ) {r : Answer (Unit {0}) Refusal} {d : Progress} (x : (a : F.A) → Stands tr j (enc (F.node a)) → F.In a → (lv : List ℤ) (lo : List ℕ) (w : State) → Holds e input lv lo vars out q w → Ends e input lv lo vars' out' q (F.run (length lo) a q.clock.left w) d r) where
+        pub along_halt : {m : Refusal} → r ≡ Err m → (lv : List ℤ) (lo : List ℕ) (w : State) → Holds e input lv lo vars₀ out₀ p w → Ends e input lv lo vars' out' p (F.gen (length lo) all p.clock.left w) d (Err m)
         unfolding list_nodes count Each
-        along_halt {m} {d} y lv lo w h = of l.rest l.counted l.stands l.named (l.so lv lo w h)
+        along_halt {m} y lv lo w h = of l.rest l.counted l.stands l.named (l.so lv lo w h)
           where
-            of : (u : List F.A) → k + count (list_nodes F.node u) ≡ N → Stands tr j (encs (list_nodes F.node u)) → Each F.In u → So F e input lv lo all u p w vars out q → Ends e input lv lo vars' out' p (F.gen (length lo) all p.clock.left w) r
+            of : (u : List F.A) → k + count (list_nodes F.node u) ≡ N → Stands tr j (encs (list_nodes F.node u)) → Each F.In u → So F e input lv lo all u p w vars out q → Ends e input lv lo vars' out' p (F.gen (length lo) all p.clock.left w) d (Err m)
             of [] c st nm s = absurd (omega (arith, c))
             of (a ∷ u) c st nm s =
                 ends_as (sym (s.is ∙ F.more (length lo) a u q.clock.left s.state))
                 (ends_from p s.less (ends_halt y (x a (two_at tr j (F.node a) (list_nodes F.node u) st).one nm.0 lv lo s.state s.holds) (λ t. F.gen (length lo) u)))
 
-        pub along_more : {d : Progress} {j' : ℕ} → r ≡ Done d → After tr j j' → Along F tr e input i N all vars₀ out₀ p (k + 1) j' vars' out' d
+        pub along_more : {u : Unit {0}} {j' : ℕ} → r ≡ Ok u → After tr j j' → Along F tr e input i N all vars₀ out₀ p (k + 1) j' vars' out' d
         unfolding list_nodes count Each
-        along_more {d} {j'} y f = of l.rest l.counted l.stands l.named l.so
+        along_more {u = ok_u} {j'} y f = of l.rest l.counted l.stands l.named l.so
           where
-            next_so : (a : F.A) (u : List F.A) (lv : List ℤ) (lo : List ℕ) (w : State) (s : So F e input lv lo all (a ∷ u) p w vars out q) → Ends e input lv lo vars' out' q (F.run (length lo) a q.clock.left s.state) (Done d) → So F e input lv lo all u p w vars' out' d
+            next_so : (a : F.A) (u : List F.A) (lv : List ℤ) (lo : List ℕ) (w : State) (s : So F e input lv lo all (a ∷ u) p w vars out q) → Ends e input lv lo vars' out' q (F.run (length lo) a q.clock.left s.state) d (Ok ok_u) → So F e input lv lo all u p w vars' out' d
             next_so a u lv lo w s (done v i m n) = record {
               state = v;
               holds = m;

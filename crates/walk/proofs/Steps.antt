@@ -7,11 +7,14 @@ use native.Mathlib.Numerals.{add-one}
 use lib.IntN.{ℤ}
 use lib.Dec.{ltb}
 use borrow.Author.Tests.{lt-ltb, le-ltb}
+use Rattle.std.proofs.Common.{Ok, Err}
+use Rattle.numbers.specs.declared.refusal.Refusal.{Refusal}
+use Rattle.numbers.specs.declared.refusal.Refusal.TheVariants.{BudgetSpent, CellOutside}
+use Rattle.numbers.specs.Refusals.{number_of}
 use Rattle.numbers.specs.Panel.{budget_spent, cell_outside}
 use Rattle.numbers.specs.Limits.{max_cells}
 use Rattle.numbers.specs.Arithmetic.{Val, val, fault}
 use Rattle.walk.specs.declared.expressions.Clock.{Clock}
-use Rattle.walk.specs.declared.expressions.Valued.TheVariants.{Value, Stopped}
 use Rattle.walk.specs.Walk.{State, Result, ok, stop, step, refuse, unless, at_top, push, result}
 use Rattle.walk.specs.Meets.{Halted, Gives, gives, halts}
 
@@ -42,33 +45,33 @@ module _ {A : Type 0} where
   refuse_on n w b h = ap (λ (m : ℕ). refuse {A = A} n m w) (one_more_lem b h) ∙ ap (λ (m : ℕ). stop n m w) (sym (one_more_lem b h))
 
 -- a refusal where the clock stands
-pub halted : (c : Clock) (w : State) (n : ℕ) (o : Result ℤ) → w.top ≡ c.top → o ≡ stop n c.left w → Halted c w o n c
-halted c w n o t e = record { is = e ∙ ap (stop n c.left) (sym (at_top_lem w c.top t)); less = omega arith }
+pub halted : (c : Clock) (w : State) (k : Refusal) (o : Result ℤ) → w.top ≡ c.top → o ≡ stop (number_of k) c.left w → Halted c w o k c
+halted c w k o t e = record { is = e ∙ ap (stop (number_of k) c.left) (sym (at_top_lem w c.top t)); less = omega arith }
 
 module _ (z : ℤ) (c : Clock) (w : State) (t : w.top ≡ c.top) where
-  pub push_spent : (n : ℕ) → c.left ≡ 0 → Gives n c w (push z c.left w) (Stopped budget_spent c)
+  pub push_spent : (n : ℕ) → c.left ≡ 0 → Gives n c w (push z c.left w) c (Err BudgetSpent)
   unfolding push
-  push_spent n e = halts (halted c w budget_spent _ t (rw e (spent_unless (ltb w.top max_cells) cell_outside z (at_top (suc w.top) w) w)))
+  push_spent n e = halts (halted c w BudgetSpent _ t (rw e (spent_unless (ltb w.top max_cells) cell_outside z (at_top (suc w.top) w) w)))
 
-  pub push_full : (n : ℕ) → (c.left ≡ 0 → ⊥) → max_cells ≤ c.top → Gives n c w (push z c.left w) (Stopped cell_outside c)
+  pub push_full : (n : ℕ) → (c.left ≡ 0 → ⊥) → max_cells ≤ c.top → Gives n c w (push z c.left w) c (Err CellOutside)
   unfolding push
-  push_full n h f = halts (halted c w cell_outside _ t (rw (le-ltb w.top max_cells (omega (arith, t))) (refuse_on cell_outside w c.left h)))
+  push_full n h f = halts (halted c w CellOutside _ t (rw (le-ltb w.top max_cells (omega (arith, t))) (refuse_on cell_outside w c.left h)))
 
-  pub push_on : (y : ℤ) → y ≡ z → (c.left ≡ 0 → ⊥) → c.top < max_cells → Gives (c.top + 1) c w (push z c.left w) (Value y (ticked c (c.top + 1)))
+  pub push_on : (y : ℤ) → y ≡ z → (c.left ≡ 0 → ⊥) → c.top < max_cells → Gives (c.top + 1) c w (push z c.left w) (ticked c (c.top + 1)) (Ok y)
   unfolding push
-  push_on y e h f = gives {z = y} {d = ticked c (c.top + 1)} (record {
+  push_on y e h f = gives {z = y} (record {
     is = rw (lt-ltb w.top max_cells (omega (arith, t))) (step_on z (at_top (suc w.top) w) w c.left h ∙ rw (t, add-one, e));
     top = refl;
     less = omega arith;
   })
 
 module _ (n : ℕ) (c : Clock) (w : State) (t : w.top ≡ c.top) where
-  pub settle_spent : (v : Val) → c.left ≡ 0 → Gives n c w (result n v c.left w) (Stopped budget_spent c)
-  settle_spent (val z) e = halts (halted c w budget_spent _ t (rw e))
-  settle_spent (fault k) e = halts (halted c w budget_spent _ t (rw e))
+  pub settle_spent : (v : Val) → c.left ≡ 0 → Gives n c w (result n v c.left w) c (Err BudgetSpent)
+  settle_spent (val z) e = halts (halted c w BudgetSpent _ t (rw e))
+  settle_spent (fault k) e = halts (halted c w BudgetSpent _ t (rw e))
 
-  pub settle_on : (v : Val) (z y : ℤ) → v ≡ val z → y ≡ z → (c.left ≡ 0 → ⊥) → Gives n c w (result n v c.left w) (Value y (ticked c n))
-  settle_on v z y e d h = gives {z = y} {d = ticked c n} (record { is = ap (λ (u : Val). result n u c.left w) e ∙ step_on z (at_top n w) w c.left h ∙ rw d; top = refl; less = omega arith })
+  pub settle_on : (v : Val) (z y : ℤ) → v ≡ val z → y ≡ z → (c.left ≡ 0 → ⊥) → Gives n c w (result n v c.left w) (ticked c n) (Ok y)
+  settle_on v z y e d h = gives {z = y} (record { is = ap (λ (u : Val). result n u c.left w) e ∙ step_on z (at_top n w) w c.left h ∙ rw d; top = refl; less = omega arith })
 
-  pub settle_not : (v : Val) (k : ℕ) → v ≡ fault k → (c.left ≡ 0 → ⊥) → Gives n c w (result n v c.left w) (Stopped k c)
-  settle_not v k e h = halts (halted c w k _ t (ap (λ (u : Val). result n u c.left w) e ∙ refuse_on k w c.left h))
+  pub settle_not : (v : Val) (k : Refusal) → v ≡ fault (number_of k) → (c.left ≡ 0 → ⊥) → Gives n c w (result n v c.left w) c (Err k)
+  settle_not v k e h = halts (halted c w k _ t (ap (λ (u : Val). result n u c.left w) e ∙ refuse_on (number_of k) w c.left h))

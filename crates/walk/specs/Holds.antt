@@ -1,25 +1,15 @@
 -- How the lent lists and the code's numbers hold a state of the walk, and how a statement's answer is met.
-use Rattle.std.specs.Prelude.{◌≡◌, List, ℕ, ◌+◌, ◌≤◌, ◌<◌, ℤ, length, drop}
-use Rattle.numbers.specs.Limits.{greatest}
+use Rattle.std.specs.Prelude.{◌≡◌, List, ℕ, ◌+◌, ◌≤◌, ◌<◌, ℤ, length, drop, Result as Answer, Ok, Err}
+use Rattle.numbers.specs.declared.refusal.Refusal.{Refusal}
+use Rattle.numbers.specs.Refusals.{number_of}
 use Rattle.numbers.specs.Lent.{onto}
 use Rattle.lexer.specs.Tokens.{Name}
 use Rattle.tree.specs.Tree.{Exp}
 use Rattle.symbols.specs.Symbols.{Row}
-use Rattle.symbols.specs.Table.{field, value_of, Sound, Seen}
 use Rattle.walk.specs.declared.expressions.Env.{Env}
 use Rattle.walk.specs.declared.expressions.Clock.{Clock}
 use Rattle.walk.specs.declared.progress.Progress.{Progress}
-use Rattle.walk.specs.declared.progress.Outcome.{Outcome}
-use Rattle.walk.specs.declared.progress.Outcome.TheVariants.{Done, Refused}
-use Rattle.walk.specs.declared.reading.Entered.{Entered}
-use Rattle.walk.specs.declared.reading.Entered.TheVariants.{Number, Stopped}
 use Rattle.walk.specs.Walk.{State, Result, ok, stop, Walk, ◌>>=◌, step, read_line, store, put, put_number, walk_exp}
-
--- the rows are sound, what the main program sees of them is set out, and their values are within i64
-pub record Rows (s xs : List ℕ) (e : Env) : Type 0 where
-  pub sound : Sound s xs e.used
-  pub seen : Seen xs e.used 0
-  pub small : (i : ℕ) → i < e.used → value_of (field xs i 9) (field xs i 10) ≤ greatest
 
 -- with another clock
 abbrev pub with_clock : Progress → Clock → Progress
@@ -44,33 +34,33 @@ pub record HasState (e : Env) (input : List ℕ) (vars : List ℤ) (out : List �
   pub state : State
   pub holds : Holds e input lv lo vars out p state
 
--- what a statement's answer says of the definition's, from p on
-pub data Ends (e : Env) (input : List ℕ) (lv : List ℤ) (lo : List ℕ) (vars : List ℤ) (out : List ℕ) (p : Progress) (o : Result (Unit {0})) : Outcome → Type 0 where
-  done : {q : Progress} (w : State) → o ≡ ok tt q.clock.left w → Holds e input lv lo vars out q w → q.clock.left ≤ p.clock.left → Ends e input lv lo vars out p o (Done q)
-  refused : {k : ℕ} {q : Progress} (w : State) → o ≡ stop k q.clock.left w → Holds e input lv lo vars out q w → q.clock.left ≤ p.clock.left → Ends e input lv lo vars out p o (Refused k q)
+-- what a statement's answer, and how far the walk is then, say of the definition's, from p on
+pub data Ends (e : Env) (input : List ℕ) (lv : List ℤ) (lo : List ℕ) (vars : List ℤ) (out : List ℕ) (p : Progress) (o : Result (Unit {0})) (q : Progress) : Answer (Unit {0}) Refusal → Type 0 where
+  done : {u : Unit {0}} (w : State) → o ≡ ok tt q.clock.left w → Holds e input lv lo vars out q w → q.clock.left ≤ p.clock.left → Ends e input lv lo vars out p o q (Ok u)
+  refused : {k : Refusal} (w : State) → o ≡ stop (number_of k) q.clock.left w → Holds e input lv lo vars out q w → q.clock.left ≤ p.clock.left → Ends e input lv lo vars out p o q (Err k)
 
 -- one step, from every state that p shows
-abbrev pub Steps : Progress → (State → State) → Outcome → Type 0
-Steps p f r = (e : Env) (input : List ℕ) (lv : List ℤ) (lo : List ℕ) (vars : List ℤ) (out : List ℕ) (w : State) → Holds e input lv lo vars out p w → Ends e input lv lo vars out p (step tt (f w) p.clock.left w) r
+abbrev pub Steps : Progress → (State → State) → Progress → Answer (Unit {0}) Refusal → Type 0
+Steps p f q r = (e : Env) (input : List ℕ) (lv : List ℤ) (lo : List ℕ) (vars : List ℤ) (out : List ℕ) (w : State) → Holds e input lv lo vars out p w → Ends e input lv lo vars out p (step tt (f w) p.clock.left w) q r
 
 -- one name of a `read`
 abbrev pub read_walk : List Row → ℕ → Name → Walk (Unit {0})
 read_walk rs room n = read_line room >>= λ z. store rs n z
 
 -- what reading a line says of the definition's, from p on
-pub data Reads (e : Env) (input : List ℕ) (lv : List ℤ) (lo : List ℕ) (vars : List ℤ) (out : List ℕ) (p : Progress) (o : Result ℤ) : Entered → Type 0 where
-  read : {z : ℤ} {q : Progress} (w : State) → o ≡ ok z q.clock.left w → Holds e input lv lo vars out q w → q.clock.left ≤ p.clock.left → Reads e input lv lo vars out p o (Number z q)
-  unread : {k : ℕ} {q : Progress} (w : State) → o ≡ stop k q.clock.left w → Holds e input lv lo vars out q w → q.clock.left ≤ p.clock.left → Reads e input lv lo vars out p o (Stopped k q)
+pub data Reads (e : Env) (input : List ℕ) (lv : List ℤ) (lo : List ℕ) (vars : List ℤ) (out : List ℕ) (p : Progress) (o : Result ℤ) (q : Progress) : Answer ℤ Refusal → Type 0 where
+  read : {z : ℤ} (w : State) → o ≡ ok z q.clock.left w → Holds e input lv lo vars out q w → q.clock.left ≤ p.clock.left → Reads e input lv lo vars out p o q (Ok z)
+  unread : {k : Refusal} (w : State) → o ≡ stop (number_of k) q.clock.left w → Holds e input lv lo vars out q w → q.clock.left ≤ p.clock.left → Reads e input lv lo vars out p o q (Err k)
 
 -- a line that is read, from every state that p shows; after a number the top is one more
-pub record Enters (input before after : List ℕ) (p : Progress) (r : Entered) : Type 0 where
-  pub reads : (e : Env) (lv : List ℤ) (lo : List ℕ) (vars : List ℤ) (w : State) → Holds e input lv lo vars before p w → Reads e input lv lo vars after p (read_line (length lo) p.clock.left w) r
-  pub top : (z : ℤ) (q : Progress) → r ≡ Number z q → 1 ≤ q.clock.top
+pub record Enters (input before after : List ℕ) (p q : Progress) (r : Answer ℤ Refusal) : Type 0 where
+  pub reads : (e : Env) (lv : List ℤ) (lo : List ℕ) (vars : List ℤ) (w : State) → Holds e input lv lo vars before p w → Reads e input lv lo vars after p (read_line (length lo) p.clock.left w) q r
+  pub top : (z : ℤ) → r ≡ Ok z → 1 ≤ q.clock.top
 
 -- one number of a `write`
 abbrev pub write_walk : List Row → ℕ → Exp → Walk (Unit {0})
 write_walk rs room t = walk_exp rs t >>= λ z. put_number room z
 
 -- bytes that are written, from every state that p shows
-abbrev pub Writes : List ℕ → List ℕ → List ℕ → Progress → Outcome → Type 0
-Writes bs before after p r = (e : Env) (input : List ℕ) (lv : List ℤ) (lo : List ℕ) (vars : List ℤ) (w : State) → Holds e input lv lo vars before p w → Ends e input lv lo vars after p (put (length lo) bs w.top p.clock.left w) r
+abbrev pub Writes : List ℕ → List ℕ → List ℕ → Progress → Progress → Answer (Unit {0}) Refusal → Type 0
+Writes bs before after p q r = (e : Env) (input : List ℕ) (lv : List ℤ) (lo : List ℕ) (vars : List ℤ) (w : State) → Holds e input lv lo vars before p w → Ends e input lv lo vars after p (put (length lo) bs w.top p.clock.left w) q r

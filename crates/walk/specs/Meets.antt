@@ -1,27 +1,31 @@
 -- What the walk's functions ask and promise: how the lent lists hold a state, and how a walk's answer is met.
-use Rattle.std.specs.Prelude.{◌≡◌, List, ℕ, ◌≤◌, ◌<◌, ℤ, length}
+use Rattle.std.specs.Prelude.{◌≡◌, List, ℕ, ◌≤◌, ◌<◌, ℤ, length, Result as Answer, Ok, Err}
 use Rattle.numbers.specs.Limits.{greatest}
 use Rattle.numbers.specs.Lent.{onto}
+use Rattle.numbers.specs.declared.refusal.Refusal.{Refusal}
+use Rattle.numbers.specs.Refusals.{number_of}
 use Rattle.numbers.specs.Arithmetic.{Arith, arith, Compare, compared, negated}
 use Rattle.tree.specs.Tree.{Exp}
 use Rattle.symbols.specs.Symbols.{Row}
 use Rattle.symbols.specs.Table.{field, value_of, rows_in, Sound, Seen}
 use Rattle.walk.specs.declared.expressions.Env.{Env}
 use Rattle.walk.specs.declared.expressions.Clock.{Clock}
-use Rattle.walk.specs.declared.expressions.Valued.{Valued}
-use Rattle.walk.specs.declared.expressions.Valued.TheVariants.{Value, Stopped}
 use Rattle.walk.specs.Walk.{State, Result, ok, stop, Walk, ◌>>=◌, at_top, on_one, on_two, walk_exp}
 
--- the rows are sound, what the main program sees of them is set out, their values are within i64, and there is room for the variables
-pub record Known (s xs : List ℕ) (e : Env) (vars : List ℤ) : Type 0 where
-  pub sound : Sound s xs e.used
-  pub seen : Seen xs e.used 0
-  pub small : (i : ℕ) → i < e.used → value_of (field xs i 9) (field xs i 10) ≤ greatest
+-- the rows are sound, what the main program sees of them is set out, and their values are within i64
+pub record Rows (e : Env) : Type 0 where
+  pub sound : Sound e.text.now e.table.now e.used
+  pub seen : Seen e.table.now e.used 0
+  pub small : (i : ℕ) → i < e.used → value_of (field e.table.now i 9) (field e.table.now i 10) ≤ greatest
+
+-- and there is room for the variables
+pub record Known (e : Env) (vars : List ℤ) : Type 0 where
+  pub rows : Rows e
   pub room : e.vars ≤ length vars
 
 -- the rows
-abbrev pub rows_of : List ℕ → List ℕ → Env → List Row
-rows_of s xs e = rows_in s xs e.used
+abbrev pub rows_of : Env → List Row
+rows_of e = rows_in e.text.now e.table.now e.used
 
 -- an expression and a leading minus on it
 abbrev pub neg_walk : List Row → Exp → Walk ℤ
@@ -53,11 +57,11 @@ pub record Went (n : ℕ) (c : Clock) (w : State) (o : Result ℤ) (z : ℤ) (d 
   pub less : d.left ≤ c.left
 
 -- a refusal
-pub record Halted (c : Clock) (w : State) (o : Result ℤ) (n : ℕ) (d : Clock) : Type 0 where
-  pub is : o ≡ stop n d.left (at_top d.top w)
+pub record Halted (c : Clock) (w : State) (o : Result ℤ) (k : Refusal) (d : Clock) : Type 0 where
+  pub is : o ≡ stop (number_of k) d.left (at_top d.top w)
   pub less : d.left ≤ c.left
 
--- what an expression's answer says of the definition's, from the clock c and the state w on, where a value leaves the top at n
-pub data Gives (n : ℕ) (c : Clock) (w : State) (o : Result ℤ) : Valued → Type 0 where
-  gives : {z : ℤ} {d : Clock} → Went n c w o z d → Gives n c w o (Value z d)
-  halts : {k : ℕ} {d : Clock} → Halted c w o k d → Gives n c w o (Stopped k d)
+-- what an expression's answer, and the clock after it, say of the definition's, from the clock c and the state w on, where a value leaves the top at n
+pub data Gives (n : ℕ) (c : Clock) (w : State) (o : Result ℤ) (d : Clock) : Answer ℤ Refusal → Type 0 where
+  gives : {z : ℤ} → Went n c w o z d → Gives n c w o d (Ok z)
+  halts : {k : Refusal} → Halted c w o k d → Gives n c w o d (Err k)

@@ -1,19 +1,20 @@
 -- The walk of a block that stands in the tree: what is asked, and how its end is met.
-use Rattle.std.specs.Prelude.{◌≡◌, Bool, true, false, List, [], ℕ, ◌≤◌, ℤ, length}
+use Rattle.std.specs.Prelude.{◌≡◌, Bool, true, false, List, [], ℕ, ◌≤◌, ℤ, length, Result as Answer, Ok, Err}
+use Rattle.numbers.specs.declared.refusal.Refusal.{Refusal}
+use Rattle.numbers.specs.Refusals.{number_of}
 use Rattle.numbers.specs.Panel.{done}
 use Rattle.numbers.specs.Limits.{max_variables}
 use Rattle.numbers.specs.Stack.{links}
 use Rattle.numbers.specs.Lent.{onto}
-use Rattle.tree.specs.Tree.{Procs, no_procs, proc, Block}
+use Rattle.tree.specs.Tree.{Procs, no_procs, proc, Stmt, Block}
 use Rattle.tree.specs.Layout.{enc, Stands}
 use Rattle.tree.specs.Nodes.{block_node}
 use Rattle.tree.specs.Named.{Named}
 use Rattle.symbols.specs.Symbols.{main_scope, Row, rows, const_rows, var_rows}
 use Rattle.symbols.specs.Table.{rows_in, Sound, Seen}
 use Rattle.walk.specs.declared.progress.Progress.{Progress}
-use Rattle.walk.specs.declared.progress.Outcome.{Outcome}
-use Rattle.walk.specs.declared.progress.Outcome.TheVariants.{Done, Refused}
 use Rattle.walk.specs.Walk.{Walk, ◌>>◌, tick, opened, Walked}
+use Rattle.walk.specs.Tests.{part_walk}
 
 -- whether there is a procedure
 abbrev pub any_procs : Procs → Bool
@@ -42,6 +43,10 @@ start_of budget = record { clock = record { left = budget; top = 0 }; at = 0; wr
 abbrev pub open_walk : ℕ → Walk (Unit {0})
 open_walk v = tick >> opened v
 
+-- and the main part after them
+abbrev pub main_walk : List Row → ℕ → ℕ → Stmt → Walk (Unit {0})
+main_walk rs room v t = open_walk v >> part_walk rs room t
+
 -- the walk x ended with the number n: what it leaves in the lists that were lent, and what q counts
 pub record Left (x : Walked) (budget : ℕ) (vars : List ℤ) (out : List ℕ) (vars' : List ℤ) (out' : List ℕ) (n : ℕ) (q : Progress) : Type 0 where
   pub number : x.number ≡ n
@@ -54,6 +59,6 @@ pub record Left (x : Walked) (budget : ℕ) (vars : List ℤ) (out : List ℕ) (
   pub few : length x.final.vars ≤ max_variables
 
 -- as the answer says
-pub data Walks (x : Walked) (budget : ℕ) (vars : List ℤ) (out : List ℕ) (vars' : List ℤ) (out' : List ℕ) : Outcome → Type 0 where
-  finished : {q : Progress} → Left x budget vars out vars' out' done q → Walks x budget vars out vars' out' (Done q)
-  halted : {k : ℕ} {q : Progress} → Left x budget vars out vars' out' k q → Walks x budget vars out vars' out' (Refused k q)
+pub data Walks (x : Walked) (budget : ℕ) (vars : List ℤ) (out : List ℕ) (vars' : List ℤ) (out' : List ℕ) (q : Progress) : Answer (Unit {0}) Refusal → Type 0 where
+  finished : {u : Unit {0}} → Left x budget vars out vars' out' done q → Walks x budget vars out vars' out' q (Ok u)
+  halted : {k : Refusal} → Left x budget vars out vars' out' (number_of k) q → Walks x budget vars out vars' out' q (Err k)

@@ -8,26 +8,24 @@ ghost use Rattle.tree.specs.Standing.{NameAt, HasName, StmtAt, HasStmt};
 ghost use Rattle.symbols.specs.Symbols.{main_scope, find};
 ghost use Rattle.symbols.specs.Table.{part};
 ghost use Rattle.walk.specs.Walk.{State, place_in, store, walk_stmt};
-ghost use Rattle.walk.specs.Meets.{rows_of};
-ghost use Rattle.walk.specs.Holds.{Rows, Holds, Ends};
+ghost use Rattle.walk.specs.Meets.{Rows, rows_of};
+ghost use Rattle.walk.specs.Holds.{Holds, Ends};
 
 use crate::expressions;
-use crate::expressions::{BUDGET_SPENT, Env, Valued};
-use crate::progress::{Outcome, Progress, at_clock, stopped, tick};
-use symbols::Found;
+use crate::expressions::Env;
+use crate::progress::{Progress, tick};
+use numbers::refusal::Refusal;
 
 // The place of the variable that a name finds.
-fn place(text: &[u8], table: &[u32], env: Env, at: u32, len: u32) -> usize
-    requires rows { Rows text.now table.now env }
-    requires len_in_bounds { at + len ≤ length text.now }
-    ensures { result ≡ place_in (find (rows_of text.now table.now env) (part text.now at len) main_scope) }
+fn place(env: &Env<'_>, at: u32, len: u32) -> usize
+    requires rows { Rows env.now }
+    requires len_in_bounds { at + len ≤ length env.now.text.now }
+    ensures { result ≡ place_in (find (rows_of env.now) (part env.now.text.now at len) main_scope) }
 {
-    let f = symbols::find(text, table, env.used, at, len);
-    let Found::At(k) = f else {
+    let Some(row) = symbols::find(env.text, env.table, env.used, at, len) else {
         return 0;
     };
-    let y = symbols::read_row(table, k);
-    expressions::place_of(y.address)
+    expressions::place_of(symbols::read_row(env.table, row).address)
 }
 
 // Puts a value into a variable's place, where there is one.
@@ -42,49 +40,37 @@ fn put_variable(vars: &mut [i64], count: usize, place: usize, z: i64)
 
 // One step: the value on top goes to the variable whose name stands at i.
 pub fn store(
-    tree: &[u32],
+    env: &Env<'_>,
     i: usize,
-    text: &[u8],
-    table: &[u32],
-    env: Env,
     z: i64,
-    p: Progress,
+    progress: &mut Progress,
     vars: &mut [i64],
-) -> Outcome
-    requires rows { Rows text.now table.now env }
-    requires has_name { HasName text.now tree.now i }
-    requires vars_in_bounds { env.vars ≤ length vars.old }
-    requires le_top { 1 ≤ p.clock.top }
-    ensures { (n : Name) → NameAt text.now tree.now i n → (input : List ℕ) (lv : List ℤ) (lo out : List ℕ) (w : State) → Holds env input lv lo vars.old out p w → Ends env input lv lo vars.new out p (store (rows_of text.now table.now env) n z p.clock.left w) result }
+) -> Result<(), Refusal>
+    requires rows { Rows env.now }
+    requires has_name { HasName env.now.text.now env.now.tree.now i }
+    requires vars_in_bounds { env.now.vars ≤ length vars.old }
+    requires le_top { 1 ≤ progress.old.clock.top }
+    ensures { (n : Name) → NameAt env.now.text.now env.now.tree.now i n → (input : List ℕ) (lv : List ℤ) (lo out : List ℕ) (w : State) → Holds env.now input lv lo vars.old out progress.old w → Ends env.now input lv lo vars.new out progress.old (store (rows_of env.now) n z progress.old.clock.left w) progress.new result }
 {
-    let c = p.clock;
-    if c.left == 0 {
-        return Outcome::Refused(BUDGET_SPENT, p);
-    }
-    let k = place(text, table, env, tree[i + 2], tree[i + 3]);
+    tick(progress, progress.clock.top - 1)?;
+    let k = place(env, env.tree[i + 2], env.tree[i + 3]);
     put_variable(vars, env.vars, k, z);
-    tick(p, c.top - 1)
+    Ok(())
 }
 
 // name `:=` expression
 pub fn assign(
-    tree: &[u32],
+    env: &Env<'_>,
     i: usize,
-    text: &[u8],
-    table: &[u32],
-    env: Env,
-    p: Progress,
+    progress: &mut Progress,
     vars: &mut [i64],
-) -> Outcome
-    requires rows { Rows text.now table.now env }
-    requires has_stmt { HasStmt text.now tree.now i }
-    requires has_kind { get_or tree.now i 0 ≡ node_no assign_kind }
-    requires vars_in_bounds { env.vars ≤ length vars.old }
-    ensures { (t : Stmt) → StmtAt text.now tree.now i t → (room : ℕ) (input : List ℕ) (lv : List ℤ) (lo out : List ℕ) (w : State) → Holds env input lv lo vars.old out p w → Ends env input lv lo vars.new out p (walk_stmt (rows_of text.now table.now env) room t p.clock.left w) result }
+) -> Result<(), Refusal>
+    requires rows { Rows env.now }
+    requires has_stmt { HasStmt env.now.text.now env.now.tree.now i }
+    requires has_kind { get_or env.now.tree.now i 0 ≡ node_no assign_kind }
+    requires vars_in_bounds { env.now.vars ≤ length vars.old }
+    ensures { (t : Stmt) → StmtAt env.now.text.now env.now.tree.now i t → (room : ℕ) (input : List ℕ) (lv : List ℤ) (lo out : List ℕ) (w : State) → Holds env.now input lv lo vars.old out progress.old w → Ends env.now input lv lo vars.new out progress.old (walk_stmt (rows_of env.now) room t progress.old.clock.left w) progress.new result }
 {
-    let r = expressions::exp(tree, i + 8, text, table, env, vars, p.clock);
-    let Valued::Value(z, c) = r else {
-        return stopped(r, p);
-    };
-    store(tree, i + 4, text, table, env, z, at_clock(p, c), vars)
+    let z = expressions::exp(env, i + 8, vars, &mut progress.clock)?;
+    store(env, i + 4, z, progress, vars)
 }

@@ -10,98 +10,67 @@ ghost use Rattle.walk.specs.Meets.{Known, rows_of};
 ghost use Rattle.walk.specs.Holds.{Holds, Ends, Writes, write_walk};
 
 use crate::expressions;
-use crate::expressions::{BUDGET_SPENT, Env, Valued};
-use crate::progress::{Outcome, Progress, at_clock, stopped, tick};
-use numbers::screen::Put;
+use crate::expressions::Env;
+use crate::progress::{Progress, tick};
+use numbers::refusal::Refusal;
+use numbers::screen;
 
-// The panel's number.
-const OUTPUT_FULL: u8 = 23;
-
-// One step that wrote its bytes, or could not: 23. The budget is not spent.
-fn wrote(w: Put, p: Progress) -> Outcome
-    requires { p.clock.left ≡ 0 → ⊥ }
-    ensures { (bs before after : List ℕ) → Puts bs p.written before after w → Writes bs before after p result }
+// One step that wrote its bytes, up to `end`, or could not: 23. The budget is not spent.
+fn wrote(end: Result<usize, Refusal>, progress: &mut Progress) -> Result<(), Refusal>
+    requires { progress.old.clock.left ≡ 0 → ⊥ }
+    ensures { (bs before after : List ℕ) → Puts bs progress.old.written before after end → Writes bs before after progress.old progress.new result }
 {
-    match w {
-        Put::At(end) => {
-            let c = p.clock;
-            let q = Progress {
-                clock: c,
-                at: p.at,
-                written: end,
-                lines: p.lines,
-            };
-            tick(q, c.top)
-        }
-        Put::Full => Outcome::Refused(OUTPUT_FULL, p),
-    }
+    progress.written = end?;
+    tick(progress, progress.clock.top)
 }
 
 // The newline of a `write`.
-pub fn write_line(p: Progress, out: &mut [u8]) -> Outcome
-    ensures { Writes newline out.old out.new p result }
+pub fn write_line(progress: &mut Progress, out: &mut [u8]) -> Result<(), Refusal>
+    ensures { Writes newline out.old out.new progress.old progress.new result }
 {
-    let c = p.clock;
-    if c.left == 0 {
-        return Outcome::Refused(BUDGET_SPENT, p);
+    if progress.clock.left == 0 {
+        return Err(Refusal::BudgetSpent);
     }
-    wrote(numbers::screen::put_newline(out, p.written), p)
+    wrote(screen::put_newline(out, progress.written), progress)
 }
 
 // One expression of a `write`.
 pub fn write_one(
-    tree: &[u32],
+    env: &Env<'_>,
     i: usize,
-    text: &[u8],
-    table: &[u32],
-    env: Env,
-    p: Progress,
+    progress: &mut Progress,
     vars: &[i64],
     out: &mut [u8],
-) -> Outcome
-    requires known { Known text.now table.now env vars.now }
-    requires has_exp { HasExp text.now tree.now i }
-    ensures { (t : Exp) → ExpAt text.now tree.now i t → (input : List ℕ) (lv : List ℤ) (lo : List ℕ) (w : State) → Holds env input lv lo vars.now out.old p w → Ends env input lv lo vars.now out.new p (write_walk (rows_of text.now table.now env) (length lo) t p.clock.left w) result }
+) -> Result<(), Refusal>
+    requires known { Known env.now vars.now }
+    requires has_exp { HasExp env.now.text.now env.now.tree.now i }
+    ensures { (t : Exp) → ExpAt env.now.text.now env.now.tree.now i t → (input : List ℕ) (lv : List ℤ) (lo : List ℕ) (w : State) → Holds env.now input lv lo vars.now out.old progress.old w → Ends env.now input lv lo vars.now out.new progress.old (write_walk (rows_of env.now) (length lo) t progress.old.clock.left w) progress.new result }
 {
-    let r = expressions::exp(tree, i, text, table, env, vars, p.clock);
-    let Valued::Value(z, c) = r else {
-        return stopped(r, p);
-    };
-    let q = at_clock(p, c);
-    if c.left == 0 {
-        return Outcome::Refused(BUDGET_SPENT, q);
+    let z = expressions::exp(env, i, vars, &mut progress.clock)?;
+    if progress.clock.left == 0 {
+        return Err(Refusal::BudgetSpent);
     }
-    wrote(numbers::screen::put_number(out, q.written, z), q)
+    wrote(screen::put_number(out, progress.written, z), progress)
 }
 
 // The expressions of the `write` at i, and the newline.
 pub fn writes(
-    tree: &[u32],
+    env: &Env<'_>,
     i: usize,
-    text: &[u8],
-    table: &[u32],
-    env: Env,
-    p: Progress,
+    progress: &mut Progress,
     vars: &[i64],
     out: &mut [u8],
-) -> Outcome
-    requires known { Known text.now table.now env vars.now }
-    requires has_stmt { HasStmt text.now tree.now i }
-    requires has_kind { get_or tree.now i 0 ≡ node_no write_kind }
-    ensures { (t : Stmt) → StmtAt text.now tree.now i t → (input : List ℕ) (lv : List ℤ) (lo : List ℕ) (w : State) → Holds env input lv lo vars.now out.old p w → Ends env input lv lo vars.now out.new p (walk_stmt (rows_of text.now table.now env) (length lo) t p.clock.left w) result }
+) -> Result<(), Refusal>
+    requires known { Known env.now vars.now }
+    requires has_stmt { HasStmt env.now.text.now env.now.tree.now i }
+    requires has_kind { get_or env.now.tree.now i 0 ≡ node_no write_kind }
+    ensures { (t : Stmt) → StmtAt env.now.text.now env.now.tree.now i t → (input : List ℕ) (lv : List ℤ) (lo : List ℕ) (w : State) → Holds env.now input lv lo vars.now out.old progress.old w → Ends env.now input lv lo vars.now out.new progress.old (walk_stmt (rows_of env.now) (length lo) t progress.old.clock.left w) progress.new result }
 {
-    let count = tree::number_at(tree, i + 2);
-    let mut now = p;
+    let count = tree::number_at(env.tree, i + 2);
     let mut j = i + 4;
-    let mut k = 0;
-    while k < count {
-        let r = write_one(tree, j, text, table, env, now, vars, out);
-        let Outcome::Done(q) = r else {
-            return r;
-        };
-        now = q;
-        j = tree::after(tree, j);
-        k += 1;
+    for _ in 0..count {
+        write_one(env, j, progress, vars, out)?;
+        j = tree::after(env.tree, j);
     }
-    write_line(now, out)
+    write_line(progress, out)
 }

@@ -3,4 +3,4 @@ use Rattle.emission.specs.Drafting.{narrow}
 use Rattle.emission.proofs.emit.Goals as goal
 
 pub returns : goal.returns
-returns c = λ o e. narrow _ _ _ _ (c.emit_wide.ensures o e)
+returns c = narrow _ _ _ _ c.emit_wide.ensures

@@ -1,20 +1,11 @@
 -- The proof of `emit_wide`.
-use native.Mathlib.Omega.{arith}
-use lib.ListN.{length-set}
+use Rattle.std.proofs.Common.{arith, ◌∙◌}
 use Rattle.emission.specs.Drafting.{put, full}
+use Rattle.emission.proofs.Places.{placed, kind_byte}
 use Rattle.emission.proofs.emit_wide.Goals as goal
 
-pub bounds-draft-i-then-n-lt-MOST : goal.bounds-draft-i-then-n-lt-MOST
-bounds-draft-i-then-n-lt-MOST c = simp length-set (omega arith)
+pub returns-then-n-ge-MAX_CODE : goal.returns-then-n-ge-MAX_CODE
+returns-then-n-ge-MAX_CODE c = full _ _ _ _ _ _ c.if-n-ge-MAX_CODE.true
 
-pub bounds-draft-i-then-n-lt-MOST-2 : goal.bounds-draft-i-then-n-lt-MOST-2
-bounds-draft-i-then-n-lt-MOST-2 c = simp length-set (omega arith)
-
-pub bounds-draft-i-then-n-lt-MOST-3 : goal.bounds-draft-i-then-n-lt-MOST-3
-bounds-draft-i-then-n-lt-MOST-3 c = simp length-set (omega arith)
-
-pub returns-then-n-lt-MOST : goal.returns-then-n-lt-MOST
-returns-then-n-lt-MOST c = λ o e. rw (← e) (put _ _ _ _ _ _ c.ranges.low.fits c.requires c.if-n-lt-MOST.true)
-
-pub returns-else-n-lt-MOST : goal.returns-else-n-lt-MOST
-returns-else-n-lt-MOST c = λ o e. full _ _ _ _ _ _ c.if-n-lt-MOST.false
+pub returns : goal.returns
+returns c = put _ _ _ _ _ _ _ c.ranges.low.fits c.if-n-ge-MAX_CODE.false (placed _ _ _ (omega arith) c.copy_from_slice.ensures.after (c.from.ensures ∙ c.cast_unsigned.ensures ∙ kind_byte _ c.number.ensures))

@@ -1,6 +1,8 @@
 -- The proof of `walk_tree`.
 use native.Mathlib.Omega.{arith}
-use Rattle.walk.proofs.Whole.{consts_at, names_at, procs_at, names_count, few, rows_in_lem, main_in, main_held, whole_spent, whole_walked}
+use mathlib.Core.Path.{refl}
+use Rattle.walk.specs.declared.expressions.Env.{Env}
+use Rattle.walk.proofs.Whole.{consts_at, names_at, procs_at, main_in, few_vars, rows_here, start_held, whole_walked}
 use Rattle.walk.proofs.walk_tree.Goals as goal
 
 pub after-names-requires : goal.after-names-requires
@@ -17,24 +19,23 @@ overflow_add-names c =
     let p = names_at _ c.requires.has_tree.at.stands c.after-names.ensures in
     omega (arith, p.fits, p.least, c.well_formed)
 
-pub number_at-count-requires : goal.number_at-count-requires
-number_at-count-requires c =
+pub number_at-requires : goal.number_at-requires
+number_at-requires c =
     let p = names_at _ c.requires.has_tree.at.stands c.after-names.ensures in
     omega (arith, p.fits, p.least, c.well_formed)
 
-pub start-r-requires : goal.start-r-requires
-start-r-requires c = omega (arith, c.number_at-count.ensures, names_count _ c.requires.has_tree.at.stands c.after-names.ensures, few c.requires.has_tree.at)
-
-pub returns-in_default : goal.returns-in_default
-returns-in_default c = whole_spent _ _ _ _ c.args.input.now c.args.budget _ _ _ c.after-names.ensures c.number_at-count.ensures (omega (arith, c.well_formed)) c.requires.vars_cleared c.start-r.ensures c.in_default.is
-
-pub part-requires : goal.part-requires
-part-requires c =
+pub main_part-answer-requires : goal.main_part-answer-requires
+main_part-answer-requires c =
+    let e : Env = record { text = c.args.text; tree = c.args.tree; table = c.args.table; used = c.args.used; vars = c.number_at.result } in
     record {
-      rows = rows_in_lem c.requires.has_tree.at _;
+      rows = rows_here e c.after-names.ensures c.number_at.ensures c.requires.has_tree.at;
       has_stmt = record { stmt = _; at = main_in c.requires.has_tree.at c.after-names.ensures c.after-procedures.ensures c.after-main.ensures };
-      has_state = main_held _ _ _ _ c.args.input.now c.args.budget _ _ _ c.after-names.ensures c.number_at-count.ensures (omega (arith, c.well_formed)) c.requires.vars_cleared c.start-r.ensures c.requires.has_tree.at c.in-Done.is;
+      has_state = start_held e c.after-names.ensures c.number_at.ensures (omega (arith, c.well_formed)) c.requires.vars_cleared c.requires.has_tree.at;
+      at_start = refl;
+      few = few_vars e c.after-names.ensures c.number_at.ensures c.requires.has_tree.at;
     }
 
 pub returns : goal.returns
-returns c = whole_walked _ _ _ _ c.args.input.now c.args.budget _ _ _ c.after-names.ensures c.number_at-count.ensures (omega (arith, c.well_formed)) c.requires.vars_cleared c.start-r.ensures c.in-Done.is c.after-procedures.ensures c.after-main.ensures c.part.ensures
+returns c =
+    let e : Env = record { text = c.args.text; tree = c.args.tree; table = c.args.table; used = c.args.used; vars = c.number_at.result } in
+    whole_walked e c.after-names.ensures c.number_at.ensures (omega (arith, c.well_formed)) c.requires.vars_cleared c.after-procedures.ensures c.after-main.ensures c.main_part-answer.ensures

@@ -1,55 +1,38 @@
 -- The proof of `args`.
 use native.Mathlib.Omega.{arith}
-use mathlib.Core.Path.{refl, ◌∙◌}
-use Rattle.emission.specs.Drafting.{stops}
+use mathlib.Core.Path.{refl}
+use Rattle.tree.specs.Parts.{stmt_fits}
+use Rattle.emission.specs.Passed.{passed}
 use Rattle.emission.proofs.Lists.{loop_head, loop_stop, loop_more, loop_done}
-use Rattle.emission.proofs.Stmts.{call_in, the_call, args_start, args_empty}
+use Rattle.emission.proofs.Stmts.{the_call, args_start, args_empty}
 use Rattle.emission.proofs.statements.args.Goals as goal
 
-pub overflow_add-i : goal.overflow_add-i
-overflow_add-i c = omega (arith, (call_in c.requires.has_kind c.requires.has_stmt).1, c.well_formed)
+pub bounds-env-i : goal.bounds-env-i
+bounds-env-i c = omega (arith, stmt_fits c.requires.has_stmt.at)
 
-pub number_at-count-requires : goal.number_at-count-requires
-number_at-count-requires c = omega (arith, (call_in c.requires.has_kind c.requires.has_stmt).1, c.well_formed)
+pub loop-init : goal.loop-init
+loop-init c = args_start _ _ _ _ _ _ _ refl c.requires.ready.most
 
-pub overflow_add-j : goal.overflow_add-j
-overflow_add-j c = omega (arith, (call_in c.requires.has_kind c.requires.has_stmt).1, c.well_formed)
+pub exp-requires-clause-ready : goal.exp-requires-clause-ready
+exp-requires-clause-ready c =
+    let d = loop_head _ _ _ _ _ _ _ _ _ c.loop.invariant c.loop-test.true (the_call c.requires.has_kind c.requires.has_stmt).0 (the_call c.requires.has_kind c.requires.has_stmt).1 in
+    record { known = c.requires.ready.known; room = omega (arith, c.requires.ready.room, c.loop.auto.draft); most = d.most }
 
-pub loop-k-init : goal.loop-k-init
-loop-k-init c = (refl, args_start _ _ _ _ _ _ _ c.number_at-count.ensures c.requires.ready.most)
+pub exp-requires-clause-has_exp : goal.exp-requires-clause-has_exp
+exp-requires-clause-has_exp c =
+    let d = loop_head _ _ _ _ _ _ _ _ _ c.loop.invariant c.loop-test.true (the_call c.requires.has_kind c.requires.has_stmt).0 (the_call c.requires.has_kind c.requires.has_stmt).1 in
+    record { exp = d.head; at = d.at }
 
-pub exp-r-requires : goal.exp-r-requires
-exp-r-requires c =
-    let w = the_call c.requires.has_kind c.requires.has_stmt in
-    let d = loop_head _ _ _ _ _ _ _ _ _ c.loop-k.invariant.1 c.loop-k-test.true w.0 w.1 in
-    record {
-      ready = record { known = c.requires.ready.known; room = omega (arith, c.requires.ready.room, c.loop-k.invariant.0); most = d.most };
-      has_exp = record { exp = d.head; at = d.at };
-    }
-
-pub shape_of-draft-in_default : goal.shape_of-draft-in_default
-shape_of-draft-in_default c = c.exp-r.auto.draft ∙ c.loop-k.invariant.0
-
-pub returns-in_default : goal.returns-in_default
-returns-in_default c = λ f es a. loop_stop _ _ _ _ _ _ _ _ _ c.loop-k.invariant.1 c.loop-k-test.true c.exp-r.ensures _ (stops c.in_default.is) (f, es) a
+pub returns-in_err-m : goal.returns-in_err-m
+returns-in_err-m c = rw (passed c.from_residual.ensures.1) (λ f es a. loop_stop _ _ _ _ _ _ _ _ _ c.loop.invariant c.loop-test.true _ c.in_err-m.ensures (f, es) a)
 
 pub after-j-requires : goal.after-j-requires
 after-j-requires c =
-    let w = the_call c.requires.has_kind c.requires.has_stmt in
-    let d = loop_head _ _ _ _ _ _ _ _ _ c.loop-k.invariant.1 c.loop-k-test.true w.0 w.1 in
+    let d = loop_head _ _ _ _ _ _ _ _ _ c.loop.invariant c.loop-test.true (the_call c.requires.has_kind c.requires.has_stmt).0 (the_call c.requires.has_kind c.requires.has_stmt).1 in
     (_, d.stands)
 
-pub overflow_add-k : goal.overflow_add-k
-overflow_add-k c = omega (arith, c.loop-k-test.true, c.number_at-count.type_inv)
-
-pub loop-k-smaller : goal.loop-k-smaller
-loop-k-smaller c = omega (arith, c.loop-k-test.true)
-
-pub loop-k-preserved : goal.loop-k-preserved
-loop-k-preserved c = (c.exp-r.auto.draft ∙ c.loop-k.invariant.0, loop_more _ _ _ _ _ _ _ _ _ c.loop-k.invariant.1 c.loop-k-test.true c.exp-r.ensures c.in-At.is c.after-j.ensures)
-
-pub shape_of-draft : goal.shape_of-draft
-shape_of-draft c = c.loop-k.invariant.0
+pub loop-preserved : goal.loop-preserved
+loop-preserved c = loop_more _ _ _ _ _ _ _ _ _ c.loop.invariant c.loop-test.true c.in_ok-m.ensures c.after-j.ensures
 
 pub returns : goal.returns
-returns c = λ f es a. loop_done _ _ _ _ _ _ _ _ _ c.loop-k.invariant.1 (args_empty c.args.text.now c.args.tree.now _) c.loop-k-test.false (f, es) a
+returns c = λ f es a. loop_done _ _ _ _ _ _ _ _ _ c.loop.invariant (args_empty c.args.env.now.text.now c.args.env.now.tree.now _) c.loop-test.false (f, es) a

@@ -1,14 +1,8 @@
 -- The proof of `args`.
-use mathlib.Core.Path.{◌≡◌}
-use Prim.Native.Nat.{◌-◌}
-use lib.ListN.{length}
 use Rattle.emission.specs.Meets.{here_of}
 use Rattle.emission.proofs.Lists.{Loop}
 use Rattle.emission.proofs.Stmts.{Args}
 use Rattle.emission.proofs.statements.args.Given as goal
 
-abbrev pub invariant-loop-k : goal.invariant-loop-k
-invariant-loop-k l = (length l.draft ≡ length l.initial.draft) × Loop (Args l.text l.tree (here_of l.text l.table l.env) l.i) l.count l.i l.n l.initial.draft l.k l.j l.m l.draft
-
-abbrev pub decreases-loop-k : goal.decreases-loop-k
-decreases-loop-k l = l.count - l.k
+abbrev pub invariant-loop : goal.invariant-loop
+invariant-loop l = Loop (Args l.env.text.now l.env.tree.now (here_of l.env) l.i) l.end l.i l.n l.initial.draft l.counter l.j l.m l.draft

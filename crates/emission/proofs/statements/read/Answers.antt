@@ -1,54 +1,38 @@
 -- The proof of `read`.
 use native.Mathlib.Omega.{arith}
-use mathlib.Core.Path.{refl, ◌∙◌}
+use mathlib.Core.Path.{refl}
 use Rattle.tree.specs.Parts.{stmt_fits}
-use Rattle.emission.specs.Drafting.{stops}
+use Rattle.emission.specs.Passed.{passed}
 use Rattle.emission.proofs.Lists.{loop_head, loop_stop, loop_more, loop_done}
 use Rattle.emission.proofs.Stmts.{reads_start, reads_empty}
 use Rattle.emission.proofs.statements.read.Goals as goal
 
-pub overflow_add-i : goal.overflow_add-i
-overflow_add-i c = omega (arith, stmt_fits c.requires.has_stmt.at, c.well_formed)
+pub bounds-env-i : goal.bounds-env-i
+bounds-env-i c = omega (arith, stmt_fits c.requires.has_stmt.at)
 
-pub number_at-count-requires : goal.number_at-count-requires
-number_at-count-requires c = omega (arith, stmt_fits c.requires.has_stmt.at, c.well_formed)
+pub loop-init : goal.loop-init
+loop-init c = reads_start _ _ _ _ _ _ _ c.requires.has_kind refl c.requires.ready.most
 
-pub overflow_add-j : goal.overflow_add-j
-overflow_add-j c = omega (arith, stmt_fits c.requires.has_stmt.at, c.well_formed)
+pub read_one-requires-clause-ready : goal.read_one-requires-clause-ready
+read_one-requires-clause-ready c =
+    let d = loop_head _ _ _ _ _ _ _ _ _ c.loop.invariant c.loop-test.true c.requires.has_stmt.stmt c.requires.has_stmt.at in
+    record { known = c.requires.ready.known; room = omega (arith, c.requires.ready.room, c.loop.auto.draft); most = d.most }
 
-pub loop-k-init : goal.loop-k-init
-loop-k-init c = (refl, reads_start _ _ _ _ _ _ _ c.requires.has_kind c.number_at-count.ensures c.requires.ready.most)
+pub read_one-requires-clause-has_name : goal.read_one-requires-clause-has_name
+read_one-requires-clause-has_name c =
+    let d = loop_head _ _ _ _ _ _ _ _ _ c.loop.invariant c.loop-test.true c.requires.has_stmt.stmt c.requires.has_stmt.at in
+    record { name = d.head; at = d.at }
 
-pub read_one-r-requires : goal.read_one-r-requires
-read_one-r-requires c =
-    let d = loop_head _ _ _ _ _ _ _ _ _ c.loop-k.invariant.1 c.loop-k-test.true c.requires.has_stmt.stmt c.requires.has_stmt.at in
-    record {
-      ready = record { known = c.requires.ready.known; room = omega (arith, c.requires.ready.room, c.loop-k.invariant.0); most = d.most };
-      has_name = record { name = d.head; at = d.at };
-    }
-
-pub shape_of-draft-in_default : goal.shape_of-draft-in_default
-shape_of-draft-in_default c = c.read_one-r.auto.draft ∙ c.loop-k.invariant.0
-
-pub returns-in_default : goal.returns-in_default
-returns-in_default c = loop_stop _ _ _ _ _ _ _ _ _ c.loop-k.invariant.1 c.loop-k-test.true c.read_one-r.ensures _ (stops c.in_default.is)
+pub returns-in_err-m : goal.returns-in_err-m
+returns-in_err-m c = rw (passed c.from_residual.ensures.1) (loop_stop _ _ _ _ _ _ _ _ _ c.loop.invariant c.loop-test.true _ c.in_err-m.ensures)
 
 pub after-j-requires : goal.after-j-requires
 after-j-requires c =
-    let d = loop_head _ _ _ _ _ _ _ _ _ c.loop-k.invariant.1 c.loop-k-test.true c.requires.has_stmt.stmt c.requires.has_stmt.at in
+    let d = loop_head _ _ _ _ _ _ _ _ _ c.loop.invariant c.loop-test.true c.requires.has_stmt.stmt c.requires.has_stmt.at in
     (_, d.stands)
 
-pub overflow_add-k : goal.overflow_add-k
-overflow_add-k c = omega (arith, c.loop-k-test.true, c.number_at-count.type_inv)
-
-pub loop-k-smaller : goal.loop-k-smaller
-loop-k-smaller c = omega (arith, c.loop-k-test.true)
-
-pub loop-k-preserved : goal.loop-k-preserved
-loop-k-preserved c = (c.read_one-r.auto.draft ∙ c.loop-k.invariant.0, loop_more _ _ _ _ _ _ _ _ _ c.loop-k.invariant.1 c.loop-k-test.true c.read_one-r.ensures c.in-At.is c.after-j.ensures)
-
-pub shape_of-draft : goal.shape_of-draft
-shape_of-draft c = c.loop-k.invariant.0
+pub loop-preserved : goal.loop-preserved
+loop-preserved c = loop_more _ _ _ _ _ _ _ _ _ c.loop.invariant c.loop-test.true c.in_ok-m.ensures c.after-j.ensures
 
 pub returns : goal.returns
-returns c = loop_done _ _ _ _ _ _ _ _ _ c.loop-k.invariant.1 (reads_empty c.args.text.now c.args.tree.now _) c.loop-k-test.false
+returns c = loop_done _ _ _ _ _ _ _ _ _ c.loop.invariant (reads_empty c.args.env.now.text.now c.args.env.now.tree.now _) c.loop-test.false

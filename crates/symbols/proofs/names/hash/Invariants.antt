@@ -1,10 +1,7 @@
 -- The proof of `hash`.
-use Prim.Native.Nat.{◌≤◌, ◌<◌, ◌-◌}
-use Rattle.symbols.proofs.Spelling.{Hashed}
+use Rattle.std.proofs.Common.{◌≡◌, drop}
+use Rattle.symbols.specs.Table.{hash_from, hash_of}
 use Rattle.symbols.proofs.names.hash.Given as goal
 
-abbrev pub invariant-loop-k : goal.invariant-loop-k
-invariant-loop-k l = (l.k ≤ l.len) × (l.h < 4294967296) × Hashed l.text l.at l.len l.k l.h
-
-abbrev pub decreases-loop-k : goal.decreases-loop-k
-decreases-loop-k l = l.len - l.k
+abbrev pub invariant-loop-b : goal.invariant-loop-b
+invariant-loop-b l = hash_from l.h (drop l.b-index l.name) ≡ hash_of l.name

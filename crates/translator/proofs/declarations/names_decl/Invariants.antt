@@ -1,7 +1,5 @@
 -- The proof of `names_decl`.
-use mathlib.Core.Path.{◌≡◌}
-use Prim.Native.Nat.{◌+◌, ◌-◌, ◌≤◌}
-use lib.ListN.{length}
+use Prim.Native.Nat.{◌+◌, ◌≤◌}
 use Rattle.numbers.specs.Stack.{links}
 use Rattle.tree.specs.Nodes.{name_node}
 use Rattle.tree.specs.Named.{NameIn}
@@ -9,8 +7,9 @@ use Rattle.symbols.specs.Table.{rows_in, scope_at}
 use Rattle.translator.proofs.Rowing.{Grows, RowLoop, add_var}
 use Rattle.translator.proofs.declarations.names_decl.Given as goal
 
-abbrev pub invariant-loop-k : goal.invariant-loop-k
-invariant-loop-k l = (length l.table ≡ length l.initial.table) × (Grows l.text l.initial.table l.used l.scope l.table l.u × ((l.address ≤ l.u + links) × RowLoop name_node (NameIn l.text) l.tree (add_var l.checked l.level (scope_at l.text l.initial.table l.scope)) (λ x. x + 1) l.count l.i (rows_in l.text l.initial.table l.used) l.initial.address l.k l.j l.address (rows_in l.text l.table l.u)))
-
-abbrev pub decreases-loop-k : goal.decreases-loop-k
-decreases-loop-k l = l.count - l.k
+abbrev pub invariant-loop : goal.invariant-loop
+invariant-loop l =
+    let s = l.source.text.now in
+    let xs = l.initial.table in
+    let f = l.frame in
+    Grows s xs l.fn.used f.scope l.table l.used × (l.address ≤ l.used + links) × RowLoop name_node (NameIn s) l.source.tree.now (add_var l.checked f.level (scope_at s xs f.scope)) (λ x. x + 1) l.end l.i (rows_in s xs l.fn.used) f.address l.counter l.j l.address (rows_in s l.table l.used)

@@ -4,7 +4,7 @@ use lib.ListN.{length}
 use Rattle.translator.proofs.procedures.+inside_procedures.Given as goal
 
 abbrev pub decreases-inside : goal.decreases-inside
-decreases-inside l = 2 * (length l.tree.now - l.i) + 1
+decreases-inside l = 2 * (length l.source.now.tree.now - l.i) + 1
 
 abbrev pub decreases-procedures : goal.decreases-procedures
-decreases-procedures l = 2 * (length l.tree.now - l.i)
+decreases-procedures l = 2 * (length l.source.now.tree.now - l.i)

@@ -1,7 +1,11 @@
 -- The proof of the cycle of calls of statements.
 use native.Mathlib.Omega.{arith}
-use mathlib.Core.Path.{refl, ◌∙◌}
+use mathlib.Core.Path.{refl, ap, ◌∙◌}
+use Rattle.std.proofs.Common.{Ok}
+use Rattle.std.proofs.lemmas.Result.{err_from_is_err_and}
 use Rattle.tree.specs.Parts.{stmt_fits, if_other}
+use Rattle.tree.specs.Kinds.{not_kind}
+use Rattle.tree.specs.declared.Kind.TheVariants.{Assign, If, While, Body, Read, Write}
 use Rattle.walk.proofs.Members.{along_held, along_next, along_halt, along_more, along_done}
 use Rattle.walk.proofs.Listed.{held_room}
 use Rattle.walk.proofs.Testing.{passed_held, failed_held}
@@ -12,36 +16,46 @@ use Rattle.walk.proofs.statements.+body_conditional_looped_part_statement.Goals 
 pub body-number_at-count-requires : goal.body-number_at-count-requires
 body-number_at-count-requires t c = omega (arith, stmt_fits c.requires.has_stmt.at, c.well_formed)
 
-pub body-loop-k-init : goal.body-loop-k-init
-body-loop-k-init t c = (refl, refl, body_start_lem _ _ _ c.args.env _ _ _ _ _ c.args.p c.number_at-count.ensures)
+pub body-loop-init : goal.body-loop-init
+body-loop-init t c = (refl, refl, body_start_lem _ _ _ c.args.env.now _ _ _ _ _ c.args.progress.now c.number_at-count.ensures)
 
-pub body-statement-r-requires : goal.body-statement-r-requires
-body-statement-r-requires t c =
+pub body-statement-requires : goal.body-statement-requires
+body-statement-requires t c =
     let w = the_body c.requires.has_kind c.requires.has_stmt in
-    let l = c.loop-k.invariant.2 w.0 w.1 in
-    let n = along_next (BodyF _ _) _ _ _ _ _ _ _ _ _ _ _ _ _ _ l c.loop-k-test.true in
+    let l = c.loop.invariant.2 w.0 w.1 in
+    let n = along_next (BodyF _ _) _ _ _ _ _ _ _ _ _ _ _ _ _ _ l c.loop-test.true in
     (omega (arith, c.decreases, n.1.1.1, l.beyond), (c.requires.rows, (record { stmt = n.0; at = record { stands = n.1.0; named = n.1.1.0 } }, along_held (BodyF _ _) _ _ _ _ _ _ _ _ _ _ _ _ _ _ l c.requires.has_state)))
 
-pub body-returns-in_default : goal.body-returns-in_default
-body-returns-in_default t c = body_whole _ _ _ _ c.args.env _ _ _ c.args.p c.requires.has_kind (λ l a. along_halt (BodyF _ _) _ _ _ _ _ _ _ _ _ _ _ _ _ _ (c.loop-k.invariant.2 l a) c.loop-k-test.true _ _ (λ m st nm. c.statement-r.ensures m (record { stands = st; named = nm })) c.in_default.is)
+pub body-returns-in_err-statement : goal.body-returns-in_err-statement
+body-returns-in_err-statement t c =
+    let p = err_from_is_err_and c.from_residual.result c.from_residual.ensures.1 in
+    rw (p.1, p.2) (body_whole _ _ _ _ c.args.env.now _ _ _ c.args.progress.now c.requires.has_kind
+    (λ l a. along_halt (BodyF _ _) _ _ _ _ _ _ _ _ _ _ _ _ _ _ (c.loop.invariant.2 l a) c.loop-test.true _ _ (λ m st nm. c.statement.ensures m (record { stands = st; named = nm })) c.in_err-statement.was))
 
 pub body-after-j-requires : goal.body-after-j-requires
 body-after-j-requires t c =
     let w = the_body c.requires.has_kind c.requires.has_stmt in
-    let n = along_next (BodyF _ _) _ _ _ _ _ _ _ _ _ _ _ _ _ _ (c.loop-k.invariant.2 w.0 w.1) c.loop-k-test.true in
+    let n = along_next (BodyF _ _) _ _ _ _ _ _ _ _ _ _ _ _ _ _ (c.loop.invariant.2 w.0 w.1) c.loop-test.true in
     (_, n.1.0)
 
-pub body-loop-k-preserved : goal.body-loop-k-preserved
-body-loop-k-preserved t c = (c.statement-r.auto.vars ∙ c.loop-k.invariant.0, c.statement-r.auto.out ∙ c.loop-k.invariant.1, λ l a. along_more (BodyF _ _) _ _ _ _ _ _ _ _ _ _ _ _ _ _ (c.loop-k.invariant.2 l a) c.loop-k-test.true _ _ (λ m st nm. c.statement-r.ensures m (record { stands = st; named = nm })) c.in-Done.is c.after-j.ensures)
+pub body-loop-preserved : goal.body-loop-preserved
+body-loop-preserved t c = (
+  c.statement.auto.vars ∙ c.loop.invariant.0,
+  c.statement.auto.out ∙ c.loop.invariant.1,
+  λ l a. along_more (BodyF _ _) _ _ _ _ _ _ _ _ _ _ _ _ _ _ (c.loop.invariant.2 l a) c.loop-test.true _ _ (λ m st nm. c.statement.ensures m (record { stands = st; named = nm })) c.in_ok-statement.was c.after-j.ensures,
+)
 
 pub body-returns : goal.body-returns
-body-returns t c = body_whole _ _ _ _ c.args.env _ _ _ c.args.p c.requires.has_kind (λ l a lv lo w h. along_done (BodyF _ _) _ _ _ _ _ _ _ _ _ _ _ _ _ _ (c.loop-k.invariant.2 l a) lv lo w h _ _ _ c.loop-k-test.false _ (λ b v. refl) (λ v held. body_end _ v held))
+body-returns t c = body_whole _ _ _ _ c.args.env.now _ _ _ c.args.progress.now c.requires.has_kind
+    (λ l a lv lo w h. along_done (BodyF _ _) _ _ _ _ _ _ _ _ _ _ _ _ _ _ (c.loop.invariant.2 l a) lv lo w h _ _ _ _ c.loop-test.false _ (λ b v. refl) (λ v held. body_end _ v held))
 
-pub conditional-test-t-requires : goal.conditional-test-t-requires
-conditional-test-t-requires t c = record {
-  known = record { sound = c.requires.rows.sound; seen = c.requires.rows.seen; small = c.requires.rows.small; room = held_room c.requires.has_state };
-  has_cond = if_cond c.requires.has_kind c.requires.has_stmt;
-}
+pub conditional-test-requires : goal.conditional-test-requires
+conditional-test-requires t c = record { known = record { rows = c.requires.rows; room = held_room c.requires.has_state }; has_cond = if_cond c.requires.has_kind c.requires.has_stmt }
+
+pub conditional-returns-in_err-holds : goal.conditional-returns-in_err-holds
+conditional-returns-in_err-holds t c =
+    let p = err_from_is_err_and c.from_residual.result c.from_residual.ensures.1 in
+    rw (p.1, p.2) (if_stop _ _ _ _ c.args.env.now _ _ _ c.args.progress.now c.requires.has_kind c.test.ensures c.in_err-holds.was)
 
 pub conditional-after-inner-requires : goal.conditional-after-inner-requires
 conditional-after-inner-requires t c = (_, (if_cond c.requires.has_kind c.requires.has_stmt).at.stands)
@@ -49,89 +63,81 @@ conditional-after-inner-requires t c = (_, (if_cond c.requires.has_kind c.requir
 pub conditional-part-requires : goal.conditional-part-requires
 conditional-part-requires t c =
     let d = if_inner c.requires.has_kind c.requires.has_stmt c.after-inner.ensures in
-    (omega (arith, c.decreases, d.fits, d.beyond), (c.requires.rows, (d.has, passed_held _ c.test-t.ensures (if_cond c.requires.has_kind c.requires.has_stmt) c.requires.has_state c.in-Passed.is)))
+    (omega (arith, c.decreases, d.fits, d.beyond), (c.requires.rows, (d.has, passed_held _ c.test.ensures (if_cond c.requires.has_kind c.requires.has_stmt) c.requires.has_state (c.in_ok-holds.was ∙ ap Ok c.if-holds.true))))
 
-pub conditional-bounds-tree-i : goal.conditional-bounds-tree-i
-conditional-bounds-tree-i t c = omega (arith, stmt_fits c.requires.has_stmt.at, c.well_formed)
+pub conditional-returns-then-holds : goal.conditional-returns-then-holds
+conditional-returns-then-holds t c = if_passed _ _ _ _ c.args.env.now _ _ _ c.args.progress.now c.requires.has_kind c.test.ensures (c.in_ok-holds.was ∙ ap Ok c.if-holds.true) c.after-inner.ensures c.part.ensures
 
-pub conditional-returns-then-tree-i-lt3 : goal.conditional-returns-then-tree-i-lt3
-conditional-returns-then-tree-i-lt3 t c = if_short _ _ _ _ c.args.env _ _ _ c.args.p c.requires.has_kind c.test-t.ensures c.in-Failed.is c.if-tree-i-lt3.true
+pub conditional-number_at-requires : goal.conditional-number_at-requires
+conditional-number_at-requires t c = omega (arith, stmt_fits c.requires.has_stmt.at, c.well_formed)
+
+pub conditional-returns-then-number_at-lt3 : goal.conditional-returns-then-number_at-lt3
+conditional-returns-then-number_at-lt3 t c = if_short _ _ _ _ c.args.env.now _ _ _ c.args.progress.now c.requires.has_kind c.test.ensures (c.in_ok-holds.was ∙ ap Ok c.if-holds.false) (rw c.number_at.ensures at c.if-number_at-lt3.true)
 
 pub conditional-after-other-requires : goal.conditional-after-other-requires
 conditional-after-other-requires t c = (_, (if_inner c.requires.has_kind c.requires.has_stmt c.after-inner.ensures).has.at.stands)
 
 pub conditional-statement-requires : goal.conditional-statement-requires
 conditional-statement-requires t c =
-    let d = if_other c.requires.has_kind c.requires.has_stmt c.if-tree-i-lt3.false c.after-inner.ensures c.after-other.ensures in
-    (omega (arith, c.decreases, d.fits, d.beyond), (c.requires.rows, (d.has, failed_held _ c.test-t.ensures (if_cond c.requires.has_kind c.requires.has_stmt) c.requires.has_state c.in-Failed.is)))
+    let d = if_other c.requires.has_kind c.requires.has_stmt (rw c.number_at.ensures at c.if-number_at-lt3.false) c.after-inner.ensures c.after-other.ensures in
+    (omega (arith, c.decreases, d.fits, d.beyond), (c.requires.rows, (d.has, failed_held _ c.test.ensures (if_cond c.requires.has_kind c.requires.has_stmt) c.requires.has_state (c.in_ok-holds.was ∙ ap Ok c.if-holds.false))))
 
-pub conditional-returns-in-Passed : goal.conditional-returns-in-Passed
-conditional-returns-in-Passed t c = if_passed _ _ _ _ c.args.env _ _ _ c.args.p c.requires.has_kind c.test-t.ensures c.in-Passed.is c.after-inner.ensures c.part.ensures
-
-pub conditional-returns-else-tree-i-lt3 : goal.conditional-returns-else-tree-i-lt3
-conditional-returns-else-tree-i-lt3 t c = if_failed _ _ _ _ c.args.env _ _ _ c.args.p c.requires.has_kind c.test-t.ensures c.in-Failed.is c.if-tree-i-lt3.false c.after-inner.ensures c.after-other.ensures c.statement.ensures
-
-pub conditional-returns-in-Stopped : goal.conditional-returns-in-Stopped
-conditional-returns-in-Stopped t c = if_stop _ _ _ _ c.args.env _ _ _ c.args.p c.requires.has_kind c.test-t.ensures c.in-Stopped.is
+pub conditional-returns : goal.conditional-returns
+conditional-returns t c = if_failed _ _ _ _ c.args.env.now _ _ _ c.args.progress.now c.requires.has_kind c.test.ensures (c.in_ok-holds.was ∙ ap Ok c.if-holds.false) (rw c.number_at.ensures at c.if-number_at-lt3.false) c.after-inner.ensures c.after-other.ensures c.statement.ensures
 
 pub looped-after-inner-requires : goal.looped-after-inner-requires
 looped-after-inner-requires t c = (_, (while_cond c.requires.has_kind c.requires.has_stmt).at.stands)
 
-pub looped-loop-q-init : goal.looped-loop-q-init
-looped-loop-q-init t c = (refl, refl, laps_start _ _ _ _ c.args.env _ _ _ c.args.p)
+pub looped-loop-progress-init : goal.looped-loop-progress-init
+looped-loop-progress-init t c = (refl, refl, laps_start _ _ _ _ c.args.env.now _ _ _ c.args.progress.now)
 
-pub looped-test-t-requires : goal.looped-test-t-requires
-looped-test-t-requires t c =
-    let g = laps_held _ _ _ _ c.args.env _ _ _ c.args.p _ _ _ c.loop-q.invariant.2 c.requires.has_kind c.requires.has_stmt c.requires.has_state in
-    record {
-      known = record { sound = c.requires.rows.sound; seen = c.requires.rows.seen; small = c.requires.rows.small; room = held_room g };
-      has_cond = while_cond c.requires.has_kind c.requires.has_stmt;
-    }
+pub looped-test-requires : goal.looped-test-requires
+looped-test-requires t c =
+    let g = laps_held _ _ _ _ c.args.env.now _ _ _ c.args.progress.now _ _ _ c.loop-progress.invariant.2 c.requires.has_kind c.requires.has_stmt c.requires.has_state in
+    record { known = record { rows = c.requires.rows; room = held_room g }; has_cond = while_cond c.requires.has_kind c.requires.has_stmt }
 
-pub looped-part-r-requires : goal.looped-part-r-requires
-looped-part-r-requires t c =
-    let g = laps_held _ _ _ _ c.args.env _ _ _ c.args.p _ _ _ c.loop-q.invariant.2 c.requires.has_kind c.requires.has_stmt c.requires.has_state in
+pub looped-returns-in_err-test : goal.looped-returns-in_err-test
+looped-returns-in_err-test t c =
+    let p = err_from_is_err_and c.from_residual.result c.from_residual.ensures.1 in
+    rw (p.1, p.2) (laps_stop _ _ _ _ c.args.env.now _ _ _ c.args.progress.now _ _ _ c.loop-progress.invariant.2 c.test.ensures c.requires.has_kind c.in_err-test.was)
+
+pub looped-part-requires : goal.looped-part-requires
+looped-part-requires t c =
+    let g = laps_held _ _ _ _ c.args.env.now _ _ _ c.args.progress.now _ _ _ c.loop-progress.invariant.2 c.requires.has_kind c.requires.has_stmt c.requires.has_state in
     let d = while_inner c.requires.has_kind c.requires.has_stmt c.after-inner.ensures in
-    (omega (arith, c.decreases, d.fits, d.beyond), (c.requires.rows, (d.has, passed_held _ c.test-t.ensures (while_cond c.requires.has_kind c.requires.has_stmt) g c.in-Passed.is)))
+    (omega (arith, c.decreases, d.fits, d.beyond), (c.requires.rows, (d.has, passed_held _ c.test.ensures (while_cond c.requires.has_kind c.requires.has_stmt) g (c.in_ok-test.was ∙ ap Ok c.if-branch.true))))
 
-pub looped-returns-in_default : goal.looped-returns-in_default
-looped-returns-in_default t c = laps_halt _ _ _ _ c.args.env _ _ _ c.args.p _ _ _ c.loop-q.invariant.2 c.test-t.ensures c.in-Passed.is c.after-inner.ensures _ _ c.part-r.ensures c.requires.has_kind c.in_default.is
+pub looped-returns-in_err-part : goal.looped-returns-in_err-part
+looped-returns-in_err-part t c =
+    let p = err_from_is_err_and c.from_residual-in_err-part.result c.from_residual-in_err-part.ensures.1 in
+    rw (p.1, p.2) (laps_halt _ _ _ _ c.args.env.now _ _ _ c.args.progress.now _ _ _ c.loop-progress.invariant.2 c.test.ensures (c.in_ok-test.was ∙ ap Ok c.if-branch.true) c.after-inner.ensures _ _ c.part.ensures c.requires.has_kind c.in_err-part.was)
 
-pub looped-loop-q-smaller : goal.looped-loop-q-smaller
-looped-loop-q-smaller t c = laps_less _ _ _ _ c.args.env _ _ _ c.args.p _ _ _ c.loop-q.invariant.2 c.test-t.ensures c.in-Passed.is c.after-inner.ensures _ _ c.part-r.ensures c.requires.has_kind c.requires.has_stmt c.requires.has_state c.in-Done.is
+pub looped-loop-progress-smaller : goal.looped-loop-progress-smaller
+looped-loop-progress-smaller t c = laps_less _ _ _ _ c.args.env.now _ _ _ c.args.progress.now _ _ _ c.loop-progress.invariant.2 c.test.ensures (c.in_ok-test.was ∙ ap Ok c.if-branch.true) c.after-inner.ensures _ _ c.part.ensures c.requires.has_kind c.requires.has_stmt c.requires.has_state c.in_ok-part.was
 
-pub looped-loop-q-preserved : goal.looped-loop-q-preserved
-looped-loop-q-preserved t c = (c.part-r.auto.vars ∙ c.loop-q.invariant.0, c.part-r.auto.out ∙ c.loop-q.invariant.1, laps_more _ _ _ _ c.args.env _ _ _ c.args.p _ _ _ c.loop-q.invariant.2 c.test-t.ensures c.in-Passed.is c.after-inner.ensures _ _ c.part-r.ensures c.in-Done.is)
+pub looped-loop-progress-preserved : goal.looped-loop-progress-preserved
+looped-loop-progress-preserved t c = (
+  c.part.auto.vars ∙ c.loop-progress.invariant.0,
+  c.part.auto.out ∙ c.loop-progress.invariant.1,
+  laps_more _ _ _ _ c.args.env.now _ _ _ c.args.progress.now _ _ _ c.loop-progress.invariant.2 c.test.ensures (c.in_ok-test.was ∙ ap Ok c.if-branch.true) c.after-inner.ensures _ _ c.part.ensures c.in_ok-part.was,
+)
 
-pub looped-returns-in-Failed : goal.looped-returns-in-Failed
-looped-returns-in-Failed t c = laps_done _ _ _ _ c.args.env _ _ _ c.args.p _ _ _ c.loop-q.invariant.2 c.test-t.ensures c.requires.has_kind c.in-Failed.is
+pub looped-returns : goal.looped-returns
+looped-returns t c = laps_done _ _ _ _ c.args.env.now _ _ _ c.args.progress.now _ _ _ c.loop-progress.invariant.2 c.test.ensures c.requires.has_kind (c.in_ok-test.was ∙ ap Ok c.if-branch.false)
 
-pub looped-returns-in-Stopped : goal.looped-returns-in-Stopped
-looped-returns-in-Stopped t c = laps_stop _ _ _ _ c.args.env _ _ _ c.args.p _ _ _ c.loop-q.invariant.2 c.test-t.ensures c.requires.has_kind c.in-Stopped.is
-
-pub part-statement-r-requires : goal.part-statement-r-requires
-part-statement-r-requires t c = (omega (arith, c.decreases), (c.requires.rows, (c.requires.has_stmt, c.requires.has_state)))
-
-pub part-returns-in_default : goal.part-returns-in_default
-part-returns-in_default t c = part_halt _ _ _ _ c.statement-r.ensures c.in_default.is
+pub part-returns-in_err-statement : goal.part-returns-in_err-statement
+part-returns-in_err-statement t c =
+    let p = err_from_is_err_and c.from_residual.result c.from_residual.ensures.1 in
+    rw (p.1, p.2) (part_halt _ _ _ _ c.statement.ensures c.in_err-statement.was)
 
 pub part-returns : goal.part-returns
-part-returns t c = part_tick _ _ _ _ c.statement-r.ensures c.in-Done.is c.tick.ensures
+part-returns t c = part_tick _ _ _ _ c.statement.ensures c.in_ok-statement.was c.tick.ensures
 
-pub statement-offset_bounds-tree-i : goal.statement-offset_bounds-tree-i
-statement-offset_bounds-tree-i t c = omega (arith, stmt_fits c.requires.has_stmt.at, c.well_formed)
+pub statement-kind_at-requires : goal.statement-kind_at-requires
+statement-kind_at-requires t c = (_, c.requires.has_stmt.at.stands)
 
-pub statement-bounds-tree-i : goal.statement-bounds-tree-i
-statement-bounds-tree-i t c = omega (arith, stmt_fits c.requires.has_stmt.at, c.well_formed)
-
-pub statement-conditional-requires : goal.statement-conditional-requires
-statement-conditional-requires t c = (omega (arith, c.decreases), (c.requires.rows, (c.requires.has_stmt, (c.if-kind-eq-IF.true, c.requires.has_state))))
-
-pub statement-looped-requires : goal.statement-looped-requires
-statement-looped-requires t c = (omega (arith, c.decreases), (c.requires.rows, (c.requires.has_stmt, (c.if-kind-eq-WHILE.true, c.requires.has_state))))
-
-pub statement-body-requires : goal.statement-body-requires
-statement-body-requires t c = (omega (arith, c.decreases), (c.requires.rows, (c.requires.has_stmt, (c.if-kind-eq-BODY.true, c.requires.has_state))))
-
-pub statement-returns : goal.statement-returns
-statement-returns t c = call_done _ c.if-kind-eq-ASSIGN.false c.if-kind-eq-IF.false c.if-kind-eq-WHILE.false c.if-kind-eq-BODY.false c.if-kind-eq-READ.false c.if-kind-eq-WRITE.false
+pub statement-returns-in_default : goal.statement-returns-in_default
+statement-returns-in_default t c =
+    let e = c.kind_at.ensures in
+    let d = c.in_default in
+    call_done _ (not_kind Assign e d.not-Assign) (not_kind If e d.not-If) (not_kind While e d.not-While) (not_kind Body e d.not-Body) (not_kind Read e d.not-Read) (not_kind Write e d.not-Write)
