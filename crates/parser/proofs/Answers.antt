@@ -1,5 +1,5 @@
 -- What a caller learns of a callee's answer, and how a refusal goes up.
-use Rattle.std.specs.Prelude.{Result, Ok, Err, Option}
+use Rattle.std.specs.Prelude.{Result, Ok, Err}
 use mathlib.Core.Path.{◌≡◌}
 use mathlib.Core.List.{List}
 use Prim.Native.Nat.{ℕ, zero, suc, ◌+◌, ◌*◌, ◌≤◌}
@@ -13,7 +13,7 @@ use Rattle.lexer.specs.Marks.{Mark}
 use Rattle.lexer.specs.Stands.{Stands, taken, past, left}
 use Rattle.lexer.specs.declared.cursor.Cursor.{Cursor}
 use Rattle.tree.specs.Layout.{Nodes}
-use Rattle.parser.specs.Answer.{Answer, Node, Nothing, Refused, node_of, try_of}
+use Rattle.parser.specs.Answer.{Answer, Node, Nothing, Refused, node_of}
 use Rattle.parser.specs.Meets.{Room, Grew, Safe, Made, Means, Meets}
 use Rattle.parser.specs.See.{Seen, Sees, Wants}
 use Rattle.parser.proofs.Seeing.{saw, took}
@@ -59,10 +59,6 @@ module _ {A B : Type 0} {yes : A → B} {no : B → Type 0} {nodes : A → Nodes
   pub node_refused : {r : Result (ℕ × Cursor) Refusal} {w : Refusal} → Meets yes no nodes src xs u ys f m spare debt c (node_of r) → r ≡ Err w → Refuses src f m c (number_of w)
   unfolding Means
   node_refused h e = rw e at h.means
-
-  pub try_refused : {r : Result (Option ℕ × Cursor) Refusal} {w : Refusal} → Meets yes no nodes src xs u ys f m spare debt c (try_of r) → r ≡ Err w → Refuses src f m c (number_of w)
-  unfolding Means
-  try_refused h e = rw e at h.means
 
 -- a reader that goes on as another, from where that one's cursor stands
 pub record Moved {B : Type 0} (src : List ℕ) (f : ℕ → Reader B) (m : ℕ) (c : Cursor) (a : Ans B) : Type 0 where

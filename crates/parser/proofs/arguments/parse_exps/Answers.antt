@@ -2,11 +2,11 @@
 use mathlib.Core.Path.{refl, ap}
 use Prim.Native.Nat.{◌+◌, ◌*◌}
 use native.Mathlib.Omega.{arith}
-use Rattle.std.proofs.lemmas.Result.{err_from_is_err_and}
 use Rattle.lexer.specs.Marks.{close_sign}
 use Rattle.lexer.specs.Stands.{left}
 use Rattle.tree.specs.Nodes.{exp_node}
 use Rattle.parser.specs.Answer.{node_of}
+use Rattle.parser.proofs.Exits.{left_as}
 use Rattle.parser.proofs.Answers.{node_refused, grew, made, room_after, same_left, one_fewer}
 use Rattle.parser.proofs.Loops.{going_start, going_room, going_more, going_refused, going_end}
 use Rattle.parser.proofs.Commas.{member_more, member_refused, comma_stop, comma_turn, comma_end}
@@ -23,15 +23,13 @@ parse_exp-requires c =
 
 pub returns-in_err-e : goal.returns-in_err-e
 returns-in_err-e c =
-    let p = err_from_is_err_and c.from_residual.result c.from_residual.ensures.1 in
     let i = c.loop-e.invariant (8 * left c.args.cur + 3) (omega arith) in
-    rw (p.1, p.2) (argues_refused _ _ (λ x l k s. going_refused _ _ _ _ (c.loop-e.invariant x l) (member_refused _ _ (exp_node 0) (λ k s. node_refused c.parse_exp.ensures c.in_err-e.was x (omega (arith, l, i.fewer)) k s)) x (omega (arith, l)) k s))
+    rw (left_as c.from_residual.ensures) (argues_refused _ _ (λ x l k s. going_refused _ _ _ _ (c.loop-e.invariant x l) (member_refused _ _ (exp_node 0) (λ k s. node_refused c.parse_exp.ensures c.in_err-e.was x (omega (arith, l, i.fewer)) k s)) x (omega (arith, l)) k s))
 
 pub returns-in_err-f : goal.returns-in_err-f
 returns-in_err-f c =
-    let p = err_from_is_err_and c.from_residual-in_err-f.result c.from_residual-in_err-f.ensures.1 in
     let i = c.loop-e.invariant (8 * left c.args.cur + 3) (omega arith) in
-    rw (p.1, p.2) (argues_refused _ _ (λ x l k s. going_refused _ _ _ _ (c.loop-e.invariant x l) (comma_stop _ _ (exp_node 0) (λ k s. made c.parse_exp.ensures (ap node_of c.in_ok-e.was) x (omega (arith, l, i.fewer)) k s) c.see.ensures c.in_err-f.was) x (omega (arith, l)) k s))
+    rw (left_as c.from_residual-in_err-f.ensures) (argues_refused _ _ (λ x l k s. going_refused _ _ _ _ (c.loop-e.invariant x l) (comma_stop _ _ (exp_node 0) (λ k s. made c.parse_exp.ensures (ap node_of c.in_ok-e.was) x (omega (arith, l, i.fewer)) k s) c.see.ensures c.in_err-f.was) x (omega (arith, l)) k s))
 
 pub overflow_add-count : goal.overflow_add-count
 overflow_add-count c =

@@ -1,9 +1,9 @@
 -- The proof of the cycle of calls of the readers of expressions. Each member's measure is eight times the tokens left, and its rank.
 use mathlib.Core.Path.{refl, ap}
 use native.Mathlib.Omega.{arith}
-use Rattle.std.proofs.lemmas.Result.{err_from_is_err_and}
 use Rattle.lexer.specs.Marks.{close_sign}
 use Rattle.parser.specs.Answer.{node_of}
+use Rattle.parser.proofs.Exits.{left_as}
 use Rattle.parser.proofs.Answers.{refused, node_refused, grew, room_after, moved, room_seen, same_left, room_taken, one_fewer, wanted_fewer}
 use Rattle.parser.proofs.Loops.{going_start, going_room, going_more, going_refused, going_end}
 use Rattle.parser.proofs.Seeing.{saw}
@@ -14,13 +14,11 @@ use Rattle.parser.proofs.expressions.+parse_brackets_parse_exp_parse_factor_pars
 
 pub parse_brackets-returns-in_err-end : goal.parse_brackets-returns-in_err-end
 parse_brackets-returns-in_err-end t c =
-    let p = err_from_is_err_and c.from_residual.result c.from_residual.ensures.1 in
-    rw (p.1, p.2) (refused (bracketed_refused _ _ (node_refused c.parse_exp.ensures c.in_err-end.was)))
+    rw (left_as c.from_residual.ensures) (refused (bracketed_refused _ _ (node_refused c.parse_exp.ensures c.in_err-end.was)))
 
 pub parse_brackets-returns-in_err-d : goal.parse_brackets-returns-in_err-d
 parse_brackets-returns-in_err-d t c =
-    let p = err_from_is_err_and c.from_residual-in_err-d.result c.from_residual-in_err-d.ensures.1 in
-    rw (p.1, p.2) (refused (bracketed_open _ _ _ c.parse_exp.ensures (ap node_of c.in_ok-end.was) (c.want.ensures close_sign refl) c.in_err-d.was))
+    rw (left_as c.from_residual-in_err-d.ensures) (refused (bracketed_open _ _ _ c.parse_exp.ensures (ap node_of c.in_ok-end.was) (c.want.ensures close_sign refl) c.in_err-d.was))
 
 pub parse_brackets-seal-requires : goal.parse_brackets-seal-requires
 parse_brackets-seal-requires t c =
@@ -38,8 +36,7 @@ parse_brackets-returns t c =
 
 pub parse_exp-returns-in_err-end : goal.parse_exp-returns-in_err-end
 parse_exp-returns-in_err-end t c =
-    let p = err_from_is_err_and c.from_residual.result c.from_residual.ensures.1 in
-    rw (p.1, p.2) (refused (chain_first (sums _ _) 2 4 (omega arith) (node_refused c.parse_signed.ensures c.in_err-end.was)))
+    rw (left_as c.from_residual.ensures) (refused (chain_first (sums _ _) 2 4 (omega arith) (node_refused c.parse_signed.ensures c.in_err-end.was)))
 
 pub parse_exp-loop-d-init : goal.parse_exp-loop-d-init
 parse_exp-loop-d-init t c =
@@ -48,8 +45,7 @@ parse_exp-loop-d-init t c =
 
 pub parse_exp-returns-in_err-d : goal.parse_exp-returns-in_err-d
 parse_exp-returns-in_err-d t c =
-    let p = err_from_is_err_and c.from_residual-in_err-d.result c.from_residual-in_err-d.ensures.1 in
-    rw (p.1, p.2) (refused (chain_rest (sums _ _) 2 4 (omega arith) _ c.parse_signed.ensures (ap node_of c.in_ok-end.was) (going_refused _ _ _ _ c.loop-d.invariant (chain_stop (sums _ _) c.see.ensures c.in_err-d.was))))
+    rw (left_as c.from_residual-in_err-d.ensures) (refused (chain_rest (sums _ _) 2 4 (omega arith) _ c.parse_signed.ensures (ap node_of c.in_ok-end.was) (going_refused _ _ _ _ c.loop-d.invariant (chain_stop (sums _ _) c.see.ensures c.in_err-d.was))))
 
 pub parse_exp-seal-requires : goal.parse_exp-seal-requires
 parse_exp-seal-requires t c =
@@ -79,8 +75,7 @@ parse_exp-parse_term-requires t c =
 
 pub parse_exp-returns-in_err-e : goal.parse_exp-returns-in_err-e
 parse_exp-returns-in_err-e t c =
-    let p = err_from_is_err_and c.from_residual-in_err-e.result c.from_residual-in_err-e.ensures.1 in
-    rw (p.1, p.2) (refused (chain_rest (sums _ _) 2 4 (omega arith) _ c.parse_signed.ensures (ap node_of c.in_ok-end.was) (going_refused _ _ _ _ c.loop-d.invariant (chain_operand (sums _ _) c.see.ensures c.in_ok-d.was c.sum_op.ensures c.in-Some.is c.joined.ensures c.take.ensures (omega arith) (node_refused c.parse_term.ensures c.in_err-e.was)))))
+    rw (left_as c.from_residual-in_err-e.ensures) (refused (chain_rest (sums _ _) 2 4 (omega arith) _ c.parse_signed.ensures (ap node_of c.in_ok-end.was) (going_refused _ _ _ _ c.loop-d.invariant (chain_operand (sums _ _) c.see.ensures c.in_ok-d.was c.sum_op.ensures c.in-Some.is c.joined.ensures c.take.ensures (omega arith) (node_refused c.parse_term.ensures c.in_err-e.was)))))
 
 pub parse_exp-overflow_add-count : goal.parse_exp-overflow_add-count
 parse_exp-overflow_add-count t c =
@@ -102,8 +97,7 @@ parse_exp-loop-d-preserved t c =
 
 pub parse_factor-returns-in_err-c : goal.parse_factor-returns-in_err-c
 parse_factor-returns-in_err-c t c =
-    let p = err_from_is_err_and c.from_residual.result c.from_residual.ensures.1 in
-    rw (p.1, p.2) (refused (factor_refused _ _ c.see.ensures c.in_err-c.was))
+    rw (left_as c.from_residual.ensures) (refused (factor_refused _ _ c.see.ensures c.in_err-c.was))
 
 pub parse_factor-push_name-requires : goal.parse_factor-push_name-requires
 parse_factor-push_name-requires t c =
@@ -159,8 +153,7 @@ parse_factor-returns-in_default t c =
 
 pub parse_negated-returns-in_err-end : goal.parse_negated-returns-in_err-end
 parse_negated-returns-in_err-end t c =
-    let p = err_from_is_err_and c.from_residual.result c.from_residual.ensures.1 in
-    rw (p.1, p.2) (refused (negated_refused _ _ (node_refused c.parse_term.ensures c.in_err-end.was)))
+    rw (left_as c.from_residual.ensures) (refused (negated_refused _ _ (node_refused c.parse_term.ensures c.in_err-end.was)))
 
 pub parse_negated-seal-requires : goal.parse_negated-seal-requires
 parse_negated-seal-requires t c =
@@ -177,8 +170,7 @@ parse_negated-returns t c =
 
 pub parse_signed-returns-in_err-c : goal.parse_signed-returns-in_err-c
 parse_signed-returns-in_err-c t c =
-    let p = err_from_is_err_and c.from_residual.result c.from_residual.ensures.1 in
-    rw (p.1, p.2) (refused (signed_refused _ _ c.see.ensures c.in_err-c.was))
+    rw (left_as c.from_residual.ensures) (refused (signed_refused _ _ c.see.ensures c.in_err-c.was))
 
 pub parse_signed-parse_term-requires : goal.parse_signed-parse_term-requires
 parse_signed-parse_term-requires t c =
@@ -209,8 +201,7 @@ parse_signed-returns-in_default t c =
 
 pub parse_term-returns-in_err-end : goal.parse_term-returns-in_err-end
 parse_term-returns-in_err-end t c =
-    let p = err_from_is_err_and c.from_residual.result c.from_residual.ensures.1 in
-    rw (p.1, p.2) (refused (chain_first (products _ _) 1 8 (omega arith) (node_refused c.parse_factor.ensures c.in_err-end.was)))
+    rw (left_as c.from_residual.ensures) (refused (chain_first (products _ _) 1 8 (omega arith) (node_refused c.parse_factor.ensures c.in_err-end.was)))
 
 pub parse_term-loop-d-init : goal.parse_term-loop-d-init
 parse_term-loop-d-init t c =
@@ -219,8 +210,7 @@ parse_term-loop-d-init t c =
 
 pub parse_term-returns-in_err-d : goal.parse_term-returns-in_err-d
 parse_term-returns-in_err-d t c =
-    let p = err_from_is_err_and c.from_residual-in_err-d.result c.from_residual-in_err-d.ensures.1 in
-    rw (p.1, p.2) (refused (chain_rest (products _ _) 1 8 (omega arith) _ c.parse_factor.ensures (ap node_of c.in_ok-end.was) (going_refused _ _ _ _ c.loop-d.invariant (chain_stop (products _ _) c.see.ensures c.in_err-d.was))))
+    rw (left_as c.from_residual-in_err-d.ensures) (refused (chain_rest (products _ _) 1 8 (omega arith) _ c.parse_factor.ensures (ap node_of c.in_ok-end.was) (going_refused _ _ _ _ c.loop-d.invariant (chain_stop (products _ _) c.see.ensures c.in_err-d.was))))
 
 pub parse_term-seal-requires : goal.parse_term-seal-requires
 parse_term-seal-requires t c =
@@ -250,8 +240,7 @@ parse_term-parse_factor-requires-in-loop-d t c =
 
 pub parse_term-returns-in_err-e : goal.parse_term-returns-in_err-e
 parse_term-returns-in_err-e t c =
-    let p = err_from_is_err_and c.from_residual-in_err-e.result c.from_residual-in_err-e.ensures.1 in
-    rw (p.1, p.2) (refused (chain_rest (products _ _) 1 8 (omega arith) _ c.parse_factor.ensures (ap node_of c.in_ok-end.was) (going_refused _ _ _ _ c.loop-d.invariant (chain_operand (products _ _) c.see.ensures c.in_ok-d.was c.product_op.ensures c.in-Some.is c.joined.ensures c.take.ensures (omega arith) (node_refused c.parse_factor-in-loop-d.ensures c.in_err-e.was)))))
+    rw (left_as c.from_residual-in_err-e.ensures) (refused (chain_rest (products _ _) 1 8 (omega arith) _ c.parse_factor.ensures (ap node_of c.in_ok-end.was) (going_refused _ _ _ _ c.loop-d.invariant (chain_operand (products _ _) c.see.ensures c.in_ok-d.was c.product_op.ensures c.in-Some.is c.joined.ensures c.take.ensures (omega arith) (node_refused c.parse_factor-in-loop-d.ensures c.in_err-e.was)))))
 
 pub parse_term-overflow_add-count : goal.parse_term-overflow_add-count
 parse_term-overflow_add-count t c =

@@ -2,9 +2,9 @@
 use mathlib.Core.Path.{refl, ap}
 use Prim.Native.Nat.{◌+◌}
 use native.Mathlib.Omega.{arith}
-use Rattle.std.proofs.lemmas.Result.{err_from_is_err_and}
 use Rattle.tree.specs.Nodes.{name_node}
 use Rattle.parser.specs.Answer.{node_of}
+use Rattle.parser.proofs.Exits.{left_as}
 use Rattle.parser.proofs.Answers.{refused, node_refused, grew, made, room_after, room_at, same_left, one_fewer}
 use Rattle.parser.proofs.Loops.{going_start, going_room, going_more, going_refused, going_end}
 use Rattle.parser.proofs.Commas.{member_more, member_refused, comma_stop, comma_turn, comma_end, list_refused, list_ended}
@@ -20,13 +20,11 @@ parse_id-requires c =
 
 pub returns-in_err-e : goal.returns-in_err-e
 returns-in_err-e c =
-    let p = err_from_is_err_and c.from_residual.result c.from_residual.ensures.1 in
-    λ nk q m z. rw (p.1, p.2) (refused (list_refused _ _ name_node m (going_refused _ _ _ _ c.loop-e.invariant (member_refused _ _ name_node (λ k s. node_refused c.parse_id.ensures c.in_err-e.was 0 (omega arith) k s)))))
+    λ nk q m z. rw (left_as c.from_residual.ensures) (refused (list_refused _ _ name_node m (going_refused _ _ _ _ c.loop-e.invariant (member_refused _ _ name_node (λ k s. node_refused c.parse_id.ensures c.in_err-e.was 0 (omega arith) k s)))))
 
 pub returns-in_err-f : goal.returns-in_err-f
 returns-in_err-f c =
-    let p = err_from_is_err_and c.from_residual-in_err-f.result c.from_residual-in_err-f.ensures.1 in
-    λ nk q m z. rw (p.1, p.2) (refused (list_refused _ _ name_node m (going_refused _ _ _ _ c.loop-e.invariant (comma_stop _ _ name_node (λ k s. made c.parse_id.ensures (ap node_of c.in_ok-e.was) 0 (omega arith) k s) c.see.ensures c.in_err-f.was))))
+    λ nk q m z. rw (left_as c.from_residual-in_err-f.ensures) (refused (list_refused _ _ name_node m (going_refused _ _ _ _ c.loop-e.invariant (comma_stop _ _ name_node (λ k s. made c.parse_id.ensures (ap node_of c.in_ok-e.was) 0 (omega arith) k s) c.see.ensures c.in_err-f.was))))
 
 pub end_list-requires : goal.end_list-requires
 end_list-requires c =
