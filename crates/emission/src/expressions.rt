@@ -99,7 +99,7 @@ fn chain(env: &Env<'_>, i: usize, draft: &mut [u32], n: usize) -> Result<usize, 
 {
     let mut m = exp(env, i + HEADER, draft, n)?;
     let mut j = tree::after(env.tree, i + HEADER);
-    for _k in 1..env.tree[i + 2] {
+    for _ in 1..env.tree[i + 2] {
         m = operated(env, j, arithmetic(env.tree[j + 1]), draft, m)?;
         j = tree::after(env.tree, j);
     }

@@ -25,16 +25,17 @@ fn single(b: u8) -> Token
     }
 }
 
-// The sign at i, where the byte is b and the next is d: one of two bytes, or else one of one.
+// The sign at i, where the byte is b and the next is d: one of two bytes, or else one of one. The next byte is asked for
+// first, since few signs are of two.
 pub fn sign(i: usize, b: u8, d: u8) -> Lexed
     requires { i + 2 < 2 ^ 64 }
     ensures { result ≡ sign_of i b d }
 {
-    let token = match (b, d) {
-        (b'<', b'=') => Token::Le,
-        (b'>', b'=') => Token::Ge,
-        (b':', b'=') => Token::EqSign,
-        (b'<', b'>') => Token::Ne,
+    let token = match (d, b) {
+        (b'=', b'<') => Token::Le,
+        (b'=', b'>') => Token::Ge,
+        (b'=', b':') => Token::EqSign,
+        (b'>', b'<') => Token::Ne,
         _ => {
             return Lexed {
                 token: single(b),

@@ -1,6 +1,6 @@
 -- What a caller learns of a callee's answer, and how a refusal goes up.
 use Rattle.std.specs.Prelude.{Result, Ok, Err, Option}
-use mathlib.Core.Path.{◌≡◌, refl}
+use mathlib.Core.Path.{◌≡◌}
 use mathlib.Core.List.{List}
 use Prim.Native.Nat.{ℕ, zero, suc, ◌+◌, ◌*◌, ◌≤◌}
 use native.Mathlib.Omega.{arith}

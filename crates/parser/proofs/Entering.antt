@@ -1,13 +1,13 @@
 -- The entry: bytes below 128, and what each way out of `parse` comes to.
-use Rattle.std.specs.Prelude.{Ok, Err, Option as Perhaps, Some, None, slice_index}
+use Rattle.std.specs.Prelude.{Ok, Err, Option as Perhaps, Some, None}
 use Rattle.std.specs.Option.{ok_or}
 use Rattle.std.specs.Str.{IsAscii, IsNotAscii}
 use mathlib.Core.Path.{◌≡◌, refl, sym, ap, ◌∙◌}
 use mathlib.Core.Bool.{Bool, true, false}
 use mathlib.Core.List.{List, [], ◌∷◌, ◌++◌}
-use Prim.Native.Nat.{ℕ, zero, suc, ◌+◌, ◌-◌, ◌*◌, ◌≤◌, ◌<◌}
+use Prim.Native.Nat.{ℕ, zero, suc, ◌-◌, ◌*◌, ◌≤◌, ◌<◌}
 use native.Mathlib.Omega.{arith}
-use lib.ListN.{length, get_or, take, drop, replicate, length-append, length-replicate}
+use lib.ListN.{length, take, drop, replicate, length-append, length-replicate}
 use lib.Seq.{take-append-le, length-take-le, drop_at}
 use borrow.Author.Tests.{le-leb, lt-leb, le-ltb, lt-ltb}
 use Rattle.numbers.specs.Limits.{max_source, tree_places}
@@ -28,26 +28,26 @@ use Rattle.grammar.specs.Grammar.{tree, refused, parsed, parse, program, fuel}
 use Rattle.grammar.specs.Source.{reading}
 use Rattle.parser.specs.Parts.{only}
 use Rattle.parser.specs.Meets.{Room, Safe, Means, Tries}
-use Rattle.parser.specs.Entry.{Parsed, Answered, numbers_of, end_of, Reads, Parses}
+use Rattle.parser.specs.Entry.{Parsed, numbers_of, end_of, Reads, Parses}
 use Rattle.parser.proofs.Answers.{Refuses}
 
 append_nil : (l : List ℕ) → l ++ [] ≡ l
 append_nil [] = refl
 append_nil (x ∷ l) = ap (λ (t : List ℕ). x ∷ t) (append_nil l)
 
+or_false : (x y : Bool) → y ≡ false → elim x as (λ z. Bool) [ true ↦ y | false ↦ false ] ≡ false
+or_false true y e = e
+or_false false y e = refl
+
 -- bytes that are all below 128, or one that is not
 pub ascii : (s : List ℕ) → IsAscii s → every is_ascii s ≡ true
 ascii [] h = refl
-ascii (b ∷ s) h = rw (lt-ltb b 128 (h 0)) (ascii s (λ i. h (suc i)))
+ascii (b ∷ s) h = rw (lt-ltb b 128 (h 0), every) (ascii s (λ i. h (suc i)))
 
 pub not_ascii : (s : List ℕ) → IsNotAscii s → every is_ascii s ≡ false
 not_ascii [] (i, h) = absurd (omega arith)
-not_ascii (b ∷ s) (zero, h) = rw (le-ltb b 128 h)
-not_ascii (b ∷ s) (suc i, h) = by (is_ascii b)
-  where
-    by : (x : Bool) → elim x [ true ↦ every is_ascii s | false ↦ false ] ≡ false
-    by true = not_ascii s (i, h)
-    by false = refl
+not_ascii (b ∷ s) (zero, h) = rw (le-ltb b 128 h, every)
+not_ascii (b ∷ s) (suc i, h) = or_false (is_ascii b) (every is_ascii s) (not_ascii s (i, h))
 
 -- a tree that ends within the room, whose numbers stand in ys; or a refusal
 unfoldable Concludes : List ℕ → List ℕ → Parsed → Type 0
@@ -84,14 +84,14 @@ module _ (src : List ℕ) where
 
   -- the part that was lent, with what stands after it
   module _ (xs ys : List ℕ) (lent : length ys ≡ tree_places) (short : length src ≤ max_source) (bytes : IsAscii src) where
-    concludes : (j : Perhaps ℕ) {d : Cursor} → Tries (λ b. only (block_node b)) src (take tree_places xs) 0 ys (λ n. program src n) (8 * left start) 0 16 start (try_of (Ok (j, d))) → Concludes src (ys ++ drop tree_places xs) (ok_or j BodyFailedQuietly)
+    concludes : (j : Perhaps ℕ) (d : Cursor) → Tries (λ b. only (block_node b)) src (take tree_places xs) 0 ys (λ n. program src n) (8 * left start) 0 16 start (try_of (Ok (j, d))) → Concludes src (ys ++ drop tree_places xs) (ok_or j BodyFailedQuietly)
     unfolding Concludes Safe Means parse parsed left sizes encs
-    concludes (Some e) h =
+    concludes (Some e) d h =
         let b = h.means fuel (omega arith) (record { seen = 0; at = 0 }) (start_stands src) in
         let w = b.wrote in
         let g = h.safe in
         (b.value, (read short (ascii src bytes) ∙ ap parsed b.is, ((omega (arith, w.ends), omega (arith, g.room)), take-append-le e ys (drop tree_places xs) (omega (arith, g.room, lent)) ∙ w.lies ∙ append_nil (enc (block_node b.value)))))
-    concludes None h =
+    concludes None d h =
         let b = h.means fuel (omega arith) (record { seen = 0; at = 0 }) (start_stands src) in
         read short (ascii src bytes) ∙ ap parsed (b.is ∙ ap (λ v. got v b.at) b.empty)
 
@@ -100,26 +100,26 @@ module _ (src : List ℕ) where
     whole (Ok e) (b, (f, ((n, l), t))) = record { answer = rw f n; stands = t ∙ sym (ap numbers_of f); within = l; beyond = drop_at ys (drop tree_places xs) tree_places lent }
     whole (Err w) f = refusing w f (drop_at ys (drop tree_places xs) tree_places lent)
 
-    pub reads : (j : Perhaps ℕ) {d : Cursor} → Tries (λ b. only (block_node b)) src (take tree_places xs) 0 ys (λ n. program src n) (8 * left start) 0 16 start (try_of (Ok (j, d))) → Reads src xs (ys ++ drop tree_places xs) (ok_or j BodyFailedQuietly)
-    reads j h = whole (ok_or j BodyFailedQuietly) (concludes j h)
+    pub reads : (j : Perhaps ℕ) (d : Cursor) → Tries (λ b. only (block_node b)) src (take tree_places xs) 0 ys (λ n. program src n) (8 * left start) 0 16 start (try_of (Ok (j, d))) → Reads src xs (ys ++ drop tree_places xs) (ok_or j BodyFailedQuietly)
+    reads j d h = whole (ok_or j BodyFailedQuietly) (concludes j d h)
 
     pub reads_refused : {w : Refusal} → Refuses src (λ n. program src n) (8 * left start) start (number_of w) → Reads src xs (ys ++ drop tree_places xs) (Err w)
-    unfolding parse parsed left
+    unfolding Concludes parse parsed left
     reads_refused {w} h = whole (Err w) (read short (ascii src bytes) ∙ ap parsed (h fuel (omega arith) (record { seen = 0; at = 0 }) (start_stands src)))
 
   pub parses_small : {xs : List ℕ} → length xs < tree_places → Parses src xs xs (Err RoomTooSmall)
   parses_small h = record { small = λ l. (refl, refl); large = λ l. absurd (omega arith); beyond = refl }
 
   -- what was read, once the room behind it is zero
-  pub parses : {xs ys zs : List ℕ} {r : Parsed} → tree_places ≤ length xs → length ys ≡ length xs → Reads src xs ys r → zs ≡ onto ys (filling (end_of r) tree_places 0 ys) → Parses src xs zs r
-  parses {xs} {ys} {zs} {r} h l a e =
+  pub parses : {xs ys zs : List ℕ} {u : ℕ} {r : Parsed} → tree_places ≤ length xs → length ys ≡ length xs → Reads src xs ys r → u ≡ end_of r → zs ≡ onto ys (filling u tree_places 0 ys) → Parses src xs zs r
+  parses {xs} {ys} {zs} {u} {r} h l a q e =
       let numbers : List ℕ = numbers_of (reading src) in
       let m : length numbers ≡ end_of r = sym (ap length a.stands) ∙ length-take-le (end_of r) ys (omega (arith, a.within)) in
       let new : List ℕ = filled tree_places 0 numbers in
       let n : filling (end_of r) tree_places 0 ys ≡ new = ap (λ (t : List ℕ). t ++ replicate (tree_places - end_of r) 0) a.stands ∙ ap (λ (k : ℕ). numbers ++ replicate (tree_places - k) 0) (sym m) in
       let all : length new ≡ tree_places = omega (arith, length-append numbers (replicate (tree_places - length numbers) 0), length-replicate {A = ℕ} (tree_places - length numbers) 0, m, a.within) in
       let d : drop (length new) ys ≡ drop (length new) xs = ap (λ (k : ℕ). drop k ys) all ∙ a.beyond ∙ ap (λ (k : ℕ). drop k xs) (sym all) in
-      let whole : zs ≡ onto xs new = e ∙ ap (onto ys) n ∙ ap (λ (t : List ℕ). new ++ t) d in
+      let whole : zs ≡ onto xs new = e ∙ ap (λ (k : ℕ). onto ys (filling k tree_places 0 ys)) q ∙ ap (onto ys) n ∙ ap (λ (t : List ℕ). new ++ t) d in
       record {
         small = λ z. absurd (omega arith);
         large = λ z. (a.answer, whole);

@@ -10,7 +10,7 @@ use Rattle.numbers.specs.Limits.{tree_share}
 use Rattle.numbers.specs.declared.refusal.Refusal.{Refusal}
 use Rattle.numbers.specs.Refusals.{number_of}
 use Rattle.lexer.specs.Marks.{semicolon_sign}
-use Rattle.lexer.specs.Cursor.{Cursor as Place, Ans, got, refuse, Reader}
+use Rattle.lexer.specs.Cursor.{Cursor as Place, Ans, got, refuse}
 use Rattle.lexer.specs.Spelling.{token_of}
 use Rattle.lexer.specs.Stands.{Stands, taken, past, left}
 use Rattle.lexer.specs.declared.cursor.Cursor.{Cursor}

@@ -32,7 +32,7 @@ use Rattle.parser.specs.Written.{Wrote, Seals}
 use Rattle.parser.specs.Meets.{Safe, Made, Quiet, Means, Meets, Reads, Tries}
 use Rattle.parser.proofs.Seeing.{choose, saw, no_look, took, no_mark, it_is, it_is_not, next_is, next_is_not, enters, enters_not}
 use Rattle.parser.proofs.Writing.{wrote_more, wrote_kept}
-use Rattle.parser.proofs.Answers.{Refuses, by_suc, refused, grew, made, Moved}
+use Rattle.parser.proofs.Answers.{Refuses, by_suc, grew, made, Moved}
 use Rattle.parser.proofs.Choices.{then_then, then_same, next_refused}
 use Rattle.parser.proofs.Tries.{quiet, quiet_left, try_left, went, Quietly, nothing}
 use Rattle.parser.proofs.Sequences.{Sequence, Joins}

@@ -5,7 +5,7 @@ use Rattle.lexer.specs.Marks.{procedure_word, open_sign, semicolon_sign}
 use Rattle.lexer.specs.Tokens.{Name}
 use Rattle.lexer.specs.Cursor.{Reader}
 use Rattle.tree.specs.Tree.{Const, Procs, Block}
-use Rattle.tree.specs.Layout.{Nodes, no_more, member}
+use Rattle.tree.specs.Layout.{Nodes, member}
 use Rattle.tree.specs.Nodes.{name_node, names_node, consts_node, procs_node}
 use Rattle.grammar.specs.Reader.{pure, ◌>>=◌, ◌>>◌, want, want_name}
 use Rattle.grammar.specs.Grammar.{const_part, var_part, arg_part, inner_of, body_of, map_o}

@@ -1,7 +1,7 @@
 -- What `parse` promises: by 01's order 24, 1 and 2, and then what the parser's definition answers, with the tree's numbers from the first place on and zero behind them.
 use Rattle.std.specs.Prelude.{◌≡◌, refl, Result, Ok, Err, Bool, true, false, List, [], ◌++◌, ℕ, ◌-◌, ◌≤◌, ◌<◌, ltb, length, take, drop, replicate}
 use Rattle.std.specs.Result.{result_unwrap_or}
-use Rattle.std.proofs.Common.{sym, ap, ◌∙◌, subst, append_assoc, ltb-true, ltb-false}
+use Rattle.std.proofs.Common.{sym, ap, ◌∙◌, append_assoc, ltb-true, ltb-false}
 use Rattle.std.proofs.Math.Seq.{take-append_seam}
 use Rattle.numbers.specs.Limits.{tree_places}
 use Rattle.numbers.specs.Lent.{onto, filled}

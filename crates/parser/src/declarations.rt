@@ -53,7 +53,16 @@ pub fn parse_consts(
         count += 1;
         let f = see(text, d)?;
         let Token::Comma = f.token else {
-            return end_list(text, tree, used, Kind::List, Token::Semicolon, count, end, f);
+            return end_list(
+                text,
+                tree,
+                used,
+                Kind::List,
+                Token::Semicolon,
+                count,
+                end,
+                f,
+            );
         };
         c = f.take();
     }

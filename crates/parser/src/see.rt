@@ -8,7 +8,7 @@ use lexer::{Cursor, Token};
 use numbers::refusal::Refusal;
 
 // Looks at the token at the cursor.
-#[inline]
+#[inline(always)]
 pub fn see(text: &[u8], cur: Cursor) -> Result<Cursor, Refusal>
     ensures { Sees text.now cur result }
 {

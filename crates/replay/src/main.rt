@@ -8,8 +8,6 @@ mod lists;
 mod run;
 mod walks;
 
-ghost use Rattle.std.specs.Prelude.{◌≡◌, length};
-
 use std::io;
 
 // Room for the longest line, and for 1 MiB beside it.
@@ -18,20 +16,8 @@ const TEXT: usize = 1572864;
 // Room for the longest answer.
 const ANSWER: usize = 524288;
 
-fn text_room() -> [u8; TEXT]
-    ensures { 1572864 ≡ length result }
-{
-    [0; TEXT]
-}
-
-fn answer_room() -> [u8; ANSWER]
-    ensures { 524288 ≡ length result }
-{
-    [0; ANSWER]
-}
-
 fn main(rt: HostRuntime) -> io::Result<()> {
-    let mut text = text_room();
-    let mut answer = answer_room();
+    let mut text = [0; TEXT];
+    let mut answer = [0; ANSWER];
     lines::serve(&rt, &mut text, &mut answer)
 }

@@ -10,8 +10,8 @@ returns-then-is_letter c = word_case _ _ _ (c.past-i.ensures is_blank (λ b r h.
 pub returns-then-is_digit : goal.returns-then-is_digit
 returns-then-is_digit c = number_case _ _ _ (c.past-i.ensures is_blank (λ b r h. h)) c.if-i-text.true _ (sym c.is_letter.ensures ∙ c.if-is_letter.false) (sym c.is_digit.ensures ∙ c.if-is_digit.true) c.integer.ensures
 
-pub returns-else-is_digit : goal.returns-else-is_digit
-returns-else-is_digit c = sign_case _ _ _ (c.past-i.ensures is_blank (λ b r h. h)) c.if-i-text.true _ _ (sym c.is_letter.ensures ∙ c.if-is_letter.false) (sym c.is_digit.ensures ∙ c.if-is_digit.false) c.sign.ensures c.byte_at.ensures
+pub returns-then-i-text : goal.returns-then-i-text
+returns-then-i-text c = sign_case _ _ _ (c.past-i.ensures is_blank (λ b r h. h)) c.if-i-text.true _ _ (sym c.is_letter.ensures ∙ c.if-is_letter.false) (sym c.is_digit.ensures ∙ c.if-is_digit.false) c.sign.ensures c.byte_at.ensures
 
-pub returns-else-i-text : goal.returns-else-i-text
-returns-else-i-text c = end_case _ _ _ (c.past-i.ensures is_blank (λ b r h. h)) c.if-i-text.false
+pub returns : goal.returns
+returns c = end_case _ _ _ (c.past-i.ensures is_blank (λ b r h. h)) c.if-i-text.false

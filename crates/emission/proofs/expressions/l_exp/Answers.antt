@@ -1,9 +1,9 @@
 -- The proof of `l_exp`.
 use Rattle.std.proofs.Common.{arith, sym, ◌∙◌}
-use Rattle.std.proofs.lemmas.Result.{err_from_is_err_and}
 use Rattle.tree.specs.declared.Kind.TheVariants.{Odd}
 use Rattle.tree.specs.Kinds.{kind_is}
 use Rattle.tree.specs.Parts.{cond_fits, cond_first, has_right}
+use Rattle.emission.specs.Passed.{passed}
 use Rattle.emission.specs.Drafting.{wrote_at}
 use Rattle.emission.proofs.Exps.{cond_odd, cond_stop, cond_rel}
 use Rattle.emission.proofs.expressions.l_exp.Goals as goal
@@ -24,7 +24,7 @@ pub exp-requires : goal.exp-requires
 exp-requires c = record { ready = c.requires.ready; has_exp = cond_first _ c.requires.has_cond.at }
 
 pub returns-in_err-m-in_default : goal.returns-in_err-m-in_default
-returns-in_err-m-in_default c = let p = err_from_is_err_and c.from_residual.result c.from_residual.ensures.1 in rw (p.1, p.2) (cond_stop _ (λ h. c.in_default.not-Odd (kind_is _ Odd (c.kind_at.ensures ∙ h))) _ c.in_err-m-in_default.ensures)
+returns-in_err-m-in_default c = rw (passed c.from_residual.ensures.1) (cond_stop _ (λ h. c.in_default.not-Odd (kind_is _ Odd (c.kind_at.ensures ∙ h))) _ c.in_err-m-in_default.ensures)
 
 pub after-second-requires : goal.after-second-requires
 after-second-requires c = (_, (cond_first _ c.requires.has_cond.at).at.stands)

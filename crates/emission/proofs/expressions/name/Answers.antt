@@ -1,6 +1,6 @@
 -- The proof of `name`.
 use Rattle.std.proofs.Common.{refl}
-use Rattle.std.proofs.lemmas.Result.{err_from_is_err_and}
+use Rattle.emission.specs.Passed.{passed}
 use Rattle.symbols.specs.Table.{row_of}
 use Rattle.emission.specs.Meets.{here_of}
 use Rattle.emission.proofs.Places.{in_place}
@@ -9,9 +9,8 @@ use Rattle.emission.proofs.expressions.name.Goals as goal
 
 pub returns-in_err-y : goal.returns-in_err-y
 returns-in_err-y c =
-    let p = err_from_is_err_and c.from_residual.result c.from_residual.ensures.1 in
     let q = in_place c.in_err-y.ensures.ok_part c.in_err-y.ensures.value in
-    rw (p.1, p.2, q) (used_none _ _ _ _ (rw c.in_err-y.ensures.ok_part at c.lookup.ensures))
+    rw (passed c.from_residual.ensures.1, q) (used_none _ _ _ _ (rw c.in_err-y.ensures.ok_part at c.lookup.ensures))
 
 pub returns-in-Constant : goal.returns-in-Constant
 returns-in-Constant c = used_const _ (rw c.in_ok-y.ensures.ok_part at c.lookup.ensures) _ c.in-Constant.is c.emit_wide.ensures

@@ -1,11 +1,11 @@
 -- `conditions::parse_comparison` meets its contract.
-use mathlib.Core.Path.{refl, ap, ◌∙◌, ◌≡◌}
+use mathlib.Core.Path.{ap, ◌≡◌}
 use native.Mathlib.Omega.{arith}
 use Rattle.std.specs.Prelude.{Some, None}
 use Rattle.numbers.specs.declared.refusal.Refusal.TheVariants.{TokenMissing}
 use Rattle.std.proofs.lemmas.Result.{err_from_is_err_and}
 use Rattle.parser.specs.Answer.{node_of}
-use Rattle.parser.proofs.Answers.{refused, node_refused, grew, room_at, room_after, room_taken, one_fewer}
+use Rattle.parser.proofs.Answers.{refused, node_refused, grew, room_after, room_taken, one_fewer}
 use Rattle.parser.proofs.Conds.{compared_refused, compared_stop, compared_none, compared_second, compared_done}
 use Rattle.parser.proofs.conditions.parse_comparison.Goals as goal
 

@@ -4,7 +4,7 @@ use native.Mathlib.Omega.{arith}
 use Rattle.std.proofs.lemmas.Result.{err_from_is_err_and}
 use Rattle.lexer.specs.Marks.{close_sign}
 use Rattle.parser.specs.Answer.{node_of}
-use Rattle.parser.proofs.Answers.{refused, node_refused, grew, room_after, moved, room_at, room_seen, same_left, room_taken, one_fewer, wanted_fewer}
+use Rattle.parser.proofs.Answers.{refused, node_refused, grew, room_after, moved, room_seen, same_left, room_taken, one_fewer, wanted_fewer}
 use Rattle.parser.proofs.Loops.{going_start, going_room, going_more, going_refused, going_end}
 use Rattle.parser.proofs.Seeing.{saw}
 use Rattle.parser.proofs.Leaves.{literal_of_lem, literal_pos}

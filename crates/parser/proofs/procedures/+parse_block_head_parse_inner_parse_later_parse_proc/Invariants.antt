@@ -14,4 +14,3 @@ decreases-parse_later l = 8 * left l.cur
 
 abbrev pub decreases-parse_proc : goal.decreases-parse_proc
 decreases-parse_proc l = 8 * left l.cur + 1
-

@@ -280,13 +280,13 @@ parse_statements-seal-requires t c =
       count_le_end = (M.members_few _ _ i h e p, omega (arith, q.small));
     }
 
-pub parse_statements-returns-in_default-f : goal.parse_statements-returns-in_default-f
-parse_statements-returns-in_default-f t c =
+pub parse_statements-returns-in_default-token : goal.parse_statements-returns-in_default-token
+parse_statements-returns-in_default-token t c =
     let p = room_at c.requires refl (c.args.used + 4) 4 (omega arith) in
     let h = c.in_ok-member.ensures in
     let e = some_at c.in-Some.is in
     let q = room_after h e {t = 0} (M.members_room _ _ c.loop-member.invariant p) c.parse_statement.auto.tree (omega arith) in
-    M.members_done _ _ c.loop-member.invariant h e c.in_ok-f.ensures refl c.in_default-f.not-Semicolon (same_left q c.in_ok-f.ensures refl) _ refl c.seal.ensures
+    M.members_done _ _ c.loop-member.invariant h e c.in_ok-f.ensures refl c.in_default-token.not-Semicolon (same_left q c.in_ok-f.ensures refl) _ refl c.seal.ensures
 
 pub parse_statements-loop-member-smaller : goal.parse_statements-loop-member-smaller
 parse_statements-loop-member-smaller t c =
