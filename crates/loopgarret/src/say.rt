@@ -45,16 +45,27 @@ fn complain_of(rt: &HostRuntime, parts: &[&[u8]]) -> u8 {
     complain(rt, page.text())
 }
 
-// A call failed on what is named, for that reason, which is said without the system's number for it.
+// A call failed on what is named, for that reason.
 pub fn failed(rt: &HostRuntime, what: &[u8], reason: Error) -> u8 {
+    let mut room = [0; PAGE];
+    let mut page = Page::new(&mut room);
+    page.put(what);
+    page.put(b": ");
+    put_reason(rt, &mut page, reason);
+    page.put(b"\n");
+    complain(rt, page.text())
+}
+
+// Puts the reason in words, without the system's number for it.
+fn put_reason(rt: &HostRuntime, page: &mut Page<'_>, reason: Error) {
     let Ok(words) = reason.to_string(rt.alloc()) else {
-        return complain_of(rt, &[what, b": there is no memory to say why\n"]);
+        page.put(b"there is no memory to say why");
+        return;
     };
-    let words = match words.as_str().split_once(" (os error ") {
-        Some((words, _number)) => words,
-        None => words.as_str(),
-    };
-    complain_of(rt, &[what, b": ", words.as_bytes(), b"\n"])
+    match words.as_str().split_once(" (os error ") {
+        Some((words, _number)) => page.put(words.as_bytes()),
+        None => page.put(words.as_bytes()),
+    }
 }
 
 // A word is not understood where it stands.
