@@ -35,7 +35,7 @@ pub fn field(s: &[u8]) -> &[u8]
 }
 
 // Digits, at least one, all of them, up to a bound.
-fn read_digits(s: &[u8], most: u64) -> Option<u64>
+pub fn read_digits(s: &[u8], most: u64) -> Option<u64>
     requires { most ≤ least_magnitude }
     ensures { option_of result ≡ magnitude most s.now }
 {
