@@ -2,7 +2,6 @@
 use mathlib.Core.Path.{sym, ap, ◌∙◌}
 use borrow.Author.Tests.{eqb-true, eqb-false}
 use Rattle.lexer.specs.Kinds.{kind_of}
-use Rattle.parser.proofs.Exits.{left_as}
 use Rattle.parser.proofs.Tokens.{of_kind, kind_of_token}
 use Rattle.parser.proofs.Seeing.{want_refused, want_took, want_other}
 use Rattle.parser.proofs.Answers.{left_as}
