@@ -1,6 +1,4 @@
 pub mod Pages
 mod Figures
 mod Lines
-mod Spelling
-mod Counts
-mod Letters
+mod Meanings

@@ -1,13 +1,17 @@
 -- A page: a lent list whose first bytes are text. What is put on it goes behind them, as far as there is room.
-use Rattle.std.specs.Prelude.{◌≡◌, List, [], ◌++◌, ℕ, ◌-◌, ◌≤◌, ℤ, length, take, replicate}
+use Rattle.std.specs.Prelude.{◌≡◌, List, [], ◌++◌, ℕ, ◌-◌, ℤ, length, take, replicate}
 use Prim.Native.Char.{code}
 use Rattle.numbers.specs.Screen.{decimal_of, decimal, many_digits}
+use Rattle.desk.specs.declared.page.Page.{Page}
 
--- a text was put behind the first `at` bytes of the page, which then has r bytes
-pub record Put (text : List ℕ) (at : ℕ) (before after : List ℕ) (r : ℕ) : Type 0 where
-  pub holds : take r after ≡ take (length before) (take at before ++ text)
-  pub within : r ≤ length before
-  pub kept : length after ≡ length before
+-- the text so far
+abbrev pub written : Page → List ℕ
+written p = take p.len p.room.now
+
+-- a text was put behind that of the page, as far as there is room
+pub record Put (text : List ℕ) (before after : Page) : Type 0 where
+  pub holds : written after ≡ take (length before.room.now) (written before ++ text)
+  pub kept : length after.room.now ≡ length before.room.now
 
 -- a count in decimal
 unfoldable pub count : ℕ → List ℕ

@@ -6,6 +6,5 @@ pub mod entries;
 pub mod files;
 pub mod listing;
 pub mod page;
-pub mod rooms;
 pub mod table;
 pub mod words;

@@ -1,76 +1,54 @@
 // A code list as text, a line to an instruction: index, kind, level and operand, laid out as the Rust's show_pcode_list does.
-ghost use Rattle.std.specs.Prelude.{◌≡◌, ◌≤◌, ◌<◌, length, take};
+ghost use Rattle.std.specs.Prelude.{◌≡◌};
+ghost use Rattle.numbers.specs.Bytes.{bytes};
+ghost use Rattle.pcode.specs.Code.{kind_no};
+ghost use Rattle.pcode.specs.Coded.{op_of};
 ghost use Rattle.desk.specs.Page.{Put};
-ghost use Rattle.desk.specs.Listing.{kind_place, kind_text, line_text};
+ghost use Rattle.desk.specs.Listing.{letters, line_text};
 
-use crate::page::{least, put, put_number, put_right};
+use crate::page::Page;
+use pcode::{Code, Instruction, Kind};
 
-// The letters of the kinds from 0 on, and of NIL behind them.
-const LETTERS: [u8; 36] = *b"LITOPRLODSTOSTACALINTJMPJPCREDWRTNIL";
-
-// The kinds from LIT to WRT are 0 to 10; NIL stands behind them.
-const WRT: i8 = 10;
-
-const NIL: usize = 11;
-
-// Where a kind stands among the letters; any other number counts as NIL.
-fn place_of(kind: i8) -> usize
-    ensures { (result ≡ kind_place kind) × (result < 12) }
+// The three letters of a kind.
+#[tactic(auto, unfolding(crate::specs::Listing::letters, numbers::specs::Bytes::bytes))]
+fn letters(kind: Kind) -> &'static [u8]
+    ensures { result.now ≡ bytes (letters (op_of kind)) }
 {
-    if kind < 0 {
-        return NIL;
+    match kind {
+        Kind::Nil => b"NIL",
+        Kind::Lit => b"LIT",
+        Kind::Opr => b"OPR",
+        Kind::Lod => b"LOD",
+        Kind::Sto => b"STO",
+        Kind::Sta => b"STA",
+        Kind::Cal => b"CAL",
+        Kind::Int => b"INT",
+        Kind::Jmp => b"JMP",
+        Kind::Jpc => b"JPC",
+        Kind::Red => b"RED",
+        Kind::Wrt => b"WRT",
     }
-    if WRT < kind {
-        return NIL;
+}
+
+impl Page<'_> {
+    // Puts the line of an instruction.
+    pub fn put_line(&mut self, index: u64, place: Instruction)
+        ensures { Put (line_text index (kind_no (op_of place.kind)) place.level place.operand) self.old self.new }
+    {
+        self.put_right(index);
+        self.put(b"| ");
+        self.put(letters(place.kind));
+        self.put(b" ");
+        self.put_right(u64::from(place.level));
+        self.put(b"   ");
+        self.put_number(place.operand);
+        self.put(b"\n");
     }
-    kind as usize
-}
 
-// Puts the three letters of a kind.
-fn put_kind(page: &mut [u8], at: usize, kind: i8) -> usize
-    ensures { Put (kind_text kind) at page.old page.new result }
-{
-    let letters = LETTERS;
-    let first = place_of(kind) * 3;
-    let end = first + 3;
-    put(page, at, &letters[first..end])
-}
-
-// Puts the line of an instruction.
-pub fn put_line(page: &mut [u8], at: usize, index: u64, kind: i8, level: u16, operand: i64) -> usize
-    ensures { Put (line_text index kind level operand) at page.old page.new result }
-{
-    let at = put_right(page, at, index);
-    let at = put(page, at, b"| ");
-    let at = put_kind(page, at, kind);
-    let at = put(page, at, b" ");
-    let at = put_right(page, at, level as u64);
-    let at = put(page, at, b"   ");
-    let at = put_number(page, at, operand);
-    put(page, at, b"\n")
-}
-
-// The lesser of n and the length of a list of kinds, in the two facts that `&kinds[..r]` asks for.
-pub fn clip_code(n: usize, kinds: &[i8]) -> usize
-    ensures { (result ≤ length kinds.now) × (result ≡ length (take result kinds.now)) }
-{
-    least(n, kinds.len())
-}
-
-// Puts the lines of a code list, as long as the shortest of its three parts.
-pub fn put_listing(
-    page: &mut [u8],
-    at: usize,
-    kinds: &[i8],
-    levels: &[u16],
-    operands: &[i64],
-) -> usize {
-    let n = least(kinds.len(), least(levels.len(), operands.len()));
-    let mut end = at;
-    let mut i = 0;
-    while i < n {
-        end = put_line(page, end, i as u64, kinds[i], levels[i], operands[i]);
-        i += 1;
+    // Puts the lines of a code list, as long as the shortest of its three parts.
+    pub fn put_listing(&mut self, code: Code<'_>) {
+        for i in 0..code.len() {
+            self.put_line(i as u64, code.get(i));
+        }
     }
-    end
 }

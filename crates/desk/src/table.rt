@@ -1,140 +1,95 @@
 // The table of numbers, the message of a refusal, and the status that the program ends with.
-ghost use Rattle.std.specs.Prelude.{◌≡◌, ◌≤◌, length, drop};
+ghost use Rattle.std.specs.Prelude.{◌≡◌, length};
 ghost use Rattle.desk.specs.Page.{Put};
-ghost use Rattle.desk.specs.Table.{line_span, after_line, line_at, meaning_of, row, refusal, status_of};
+ghost use Rattle.desk.specs.Table.{meaning_of, row, refusal, status_of};
 
-use crate::page::{put, put_count};
+use crate::page::Page;
 
-// What each number means, one to a line, from 0 on.
-const MEANINGS: [u8; 917] = *b"\
-done\n\
-the source is over 32,768 bytes\n\
-a byte of 128 or more stands in the source\n\
-a bad token\n\
-a literal above 9223372036854775807\n\
-a required token is not there, or the text ends\n\
-the main body failed quietly\n\
-a 65th construct opens at once\n\
-an 8,193rd token\n\
-a name is already in this scope\n\
-a name is not found\n\
-a name is of the wrong kind\n\
-the wrong number of arguments\n\
-a variable or procedure that is found has a level above the current one\n\
-a 513th symbol row\n\
-a 4,097th instruction\n\
-the budget was spent before the program halted\n\
-a cell outside 0..4095, or a top outside 0..4096\n\
-a jump, call or return to outside the code, or a fetch past its end\n\
-a result outside i64, also of negating or dividing the least value by -1\n\
-a division by zero\n\
-NIL, or an OPR number outside 0..16\n\
-the next entry is bad or missing\n\
-the output of this step does not fit\n\
-the lent room is too small\n\
-the sheet has a procedure, and only run takes those\n";
+// The greatest number.
+const LAST: u8 = 25;
 
-// The numbers are 0 to 25.
-const NUMBERS: u8 = 26;
-
-// The numbers of a refused run: the budget's is the first, the output's the last.
-const BUDGET_SPENT: u8 = 16;
-
-const OUTPUT_FULL: u8 = 23;
-
-// The bytes of the first line, without its end.
-fn line_length(s: &[u8]) -> usize
-    ensures { (result ≤ length s.now) × (result ≡ line_span s.now) }
+// What a number means; nothing where it means nothing.
+#[tactic(auto, unfolding(crate::specs::Table::meaning_of, crate::specs::Table::line_at, crate::specs::Table::line_span, crate::specs::Table::after_line, crate::specs::Table::lines, crate::specs::Table::meanings, numbers::specs::Bytes::bytes))]
+pub fn meaning_of(number: u8) -> &'static [u8]
+    ensures { result.now ≡ meaning_of number }
 {
-    let mut i = 0;
-    while i < s.len() {
-        if s[i] == b'\n' {
-            return i;
+    match number {
+        0 => b"done",
+        1 => b"the source is over 32,768 bytes",
+        2 => b"a byte of 128 or more stands in the source",
+        3 => b"a bad token",
+        4 => b"a literal above 9223372036854775807",
+        5 => b"a required token is not there, or the text ends",
+        6 => b"the main body failed quietly",
+        7 => b"a 65th construct opens at once",
+        8 => b"an 8,193rd token",
+        9 => b"a name is already in this scope",
+        10 => b"a name is not found",
+        11 => b"a name is of the wrong kind",
+        12 => b"the wrong number of arguments",
+        13 => b"a variable or procedure that is found has a level above the current one",
+        14 => b"a 513th symbol row",
+        15 => b"a 4,097th instruction",
+        16 => b"the budget was spent before the program halted",
+        17 => b"a cell outside 0..4095, or a top outside 0..4096",
+        18 => b"a jump, call or return to outside the code, or a fetch past its end",
+        19 => b"a result outside i64, also of negating or dividing the least value by -1",
+        20 => b"a division by zero",
+        21 => b"NIL, or an OPR number outside 0..16",
+        22 => b"the next entry is bad or missing",
+        23 => b"the output of this step does not fit",
+        24 => b"the lent room is too small",
+        25 => b"the sheet has a procedure, and only run takes those",
+        _ => b"",
+    }
+}
+
+impl Page<'_> {
+    // Puts what a number means.
+    pub fn put_meaning(&mut self, number: u8)
+        ensures { Put (meaning_of number) self.old self.new }
+    {
+        self.put(meaning_of(number));
+    }
+
+    // Puts a line of the table: a number and what it means.
+    fn put_row(&mut self, number: u8)
+        ensures { Put (row number) self.old self.new }
+    {
+        self.put_count(u64::from(number));
+        self.put(b"  ");
+        self.put_meaning(number);
+        self.put(b"\n");
+    }
+
+    // Puts the table of all numbers.
+    pub fn put_table(&mut self) {
+        for number in 0..=LAST {
+            self.put_row(number);
         }
-        i += 1;
     }
-    i
-}
 
-// The bytes of the first line with its end.
-fn past_line(s: &[u8]) -> usize
-    ensures { (result ≤ length s.now) × (drop result s.now ≡ after_line s.now) }
-{
-    let n = line_length(s);
-    if n < s.len() {
-        return n + 1;
+    // Puts the message of a refusal: the sheet's name first, the number, and what it means.
+    pub fn put_refusal(&mut self, name: &[u8], number: u8)
+        ensures { Put (refusal name.now number) self.old self.new }
+    {
+        self.put(name);
+        self.put(b": refused with ");
+        self.put_count(u64::from(number));
+        self.put(b": ");
+        self.put_meaning(number);
+        self.put(b"\n");
     }
-    n
-}
-
-// The line of that number, counted from 0; nothing where there are fewer.
-pub fn line_at(s: &[u8], n: u8) -> &[u8]
-    ensures { result.now ≡ line_at n s.now }
-{
-    let mut rest = s;
-    let mut left = n;
-    while 0 < left {
-        let next = past_line(rest);
-        rest = &rest[next..];
-        left -= 1;
-    }
-    let k = line_length(rest);
-    &rest[..k]
-}
-
-// Puts what a number means.
-pub fn put_meaning(page: &mut [u8], at: usize, number: u8) -> usize
-    ensures { Put (meaning_of number) at page.old page.new result }
-{
-    let meanings = MEANINGS;
-    put(page, at, line_at(&meanings, number))
-}
-
-// Puts a line of the table: a number and what it means.
-fn put_row(page: &mut [u8], at: usize, number: u8) -> usize
-    ensures { Put (row number) at page.old page.new result }
-{
-    let at = put_count(page, at, number as u64);
-    let at = put(page, at, b"  ");
-    let at = put_meaning(page, at, number);
-    put(page, at, b"\n")
-}
-
-// Puts the table of all numbers.
-pub fn put_table(page: &mut [u8], at: usize) -> usize {
-    let mut number = 0;
-    let mut end = at;
-    while number < NUMBERS {
-        end = put_row(page, end, number);
-        number += 1;
-    }
-    end
-}
-
-// Puts the message of a refusal: the sheet's name first, the number, and what it means.
-pub fn put_refusal(page: &mut [u8], at: usize, name: &[u8], number: u8) -> usize
-    ensures { Put (refusal name.now number) at page.old page.new result }
-{
-    let at = put(page, at, name);
-    let at = put(page, at, b": refused with ");
-    let at = put_count(page, at, number as u64);
-    let at = put(page, at, b": ");
-    let at = put_meaning(page, at, number);
-    put(page, at, b"\n")
 }
 
 // The status for a number: 0 done, 2 a refused run, 1 a refused sheet.
+#[tactic(auto, unfolding(crate::specs::Table::status_of))]
 pub fn status_of(number: u8) -> u8
     ensures { result ≡ status_of number }
 {
-    if number == 0 {
-        return 0;
+    match number {
+        0 => 0,
+        16..=23 => 2,
+        _ => 1,
     }
-    if number < BUDGET_SPENT {
-        return 1;
-    }
-    if number <= OUTPUT_FULL {
-        return 2;
-    }
-    1
 }

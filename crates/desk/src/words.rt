@@ -1,18 +1,11 @@
 // The words of the command line: commands, options and the number of a budget.
 ghost use Rattle.std.specs.Prelude.{◌≡◌};
-ghost use Rattle.numbers.specs.Bytes.{eq_list};
+ghost use Rattle.numbers.specs.Answers.{option_of};
 ghost use Rattle.desk.specs.Words.{command_of, choice_of, count_of};
 
-use check::same;
+use numbers::line::read_digits;
 
-// Whether a word is that text.
-fn is_word(word: &[u8], text: &[u8]) -> bool
-    ensures { result ≡ eq_list word.now text.now }
-{
-    same(word, text)
-}
-
-#[derive(Clone, Copy)]
+#[derive(Clone, Copy, PartialEq, Eq)]
 pub enum Command {
     Run,
     Walk,
@@ -25,34 +18,30 @@ pub enum Command {
 }
 
 // What the first word asks for.
+#[tactic(auto, unfolding(crate::specs::Words::command_of, crate::specs::Words::spelled, numbers::specs::Bytes::bytes))]
 pub fn command_of(word: &[u8]) -> Command
     ensures { result ≡ command_of word.now }
 {
-    if is_word(word, b"run") {
-        return Command::Run;
+    if word == b"run".as_slice() {
+        Command::Run
+    } else if word == b"walk".as_slice() {
+        Command::Walk
+    } else if word == b"compile".as_slice() {
+        Command::Compile
+    } else if word == b"check".as_slice() {
+        Command::Check
+    } else if word == b"both".as_slice() {
+        Command::Both
+    } else if word == b"numbers".as_slice() {
+        Command::Numbers
+    } else if word == b"--help".as_slice() {
+        Command::Help
+    } else {
+        Command::Unknown
     }
-    if is_word(word, b"walk") {
-        return Command::Walk;
-    }
-    if is_word(word, b"compile") {
-        return Command::Compile;
-    }
-    if is_word(word, b"check") {
-        return Command::Check;
-    }
-    if is_word(word, b"both") {
-        return Command::Both;
-    }
-    if is_word(word, b"numbers") {
-        return Command::Numbers;
-    }
-    if is_word(word, b"--help") {
-        return Command::Help;
-    }
-    Command::Unknown
 }
 
-#[derive(Clone, Copy)]
+#[derive(Clone, Copy, PartialEq, Eq)]
 pub enum Choice {
     Help,
     Steps,
@@ -62,62 +51,32 @@ pub enum Choice {
 }
 
 // What a later word is: an option, or the name of a sheet.
+#[tactic(auto, unfolding(crate::specs::Words::choice_of, crate::specs::Words::named, crate::specs::Words::spelled, numbers::specs::Bytes::bytes))]
 pub fn choice_of(word: &[u8]) -> Choice
     ensures { result ≡ choice_of word.now }
 {
-    if is_word(word, b"--help") {
-        return Choice::Help;
+    if word == b"--help".as_slice() {
+        Choice::Help
+    } else if word == b"--steps".as_slice() {
+        Choice::Steps
+    } else if word == b"--budget".as_slice() {
+        Choice::Budget
+    } else if word.starts_with(b"--") {
+        Choice::Unknown
+    } else {
+        Choice::Sheet
     }
-    if is_word(word, b"--steps") {
-        return Choice::Steps;
-    }
-    if is_word(word, b"--budget") {
-        return Choice::Budget;
-    }
-    if word.len() < 2 {
-        return Choice::Sheet;
-    }
-    if word[0] != b'-' {
-        return Choice::Sheet;
-    }
-    if word[1] != b'-' {
-        return Choice::Sheet;
-    }
-    Choice::Unknown
 }
 
-#[derive(Clone, Copy)]
-pub enum Count {
-    Is(u32),
-    Bad,
-}
-
+// The greatest number.
 const MOST: u64 = 4294967295;
 
 // The number that a word means: digits alone, up to 4,294,967,295.
-pub fn count_of(word: &[u8]) -> Count
-    ensures { result ≡ count_of word.now }
+pub fn count_of(word: &[u8]) -> Option<u32>
+    ensures { option_of result ≡ count_of word.now }
 {
-    if word.len() == 0 {
-        return Count::Bad;
-    }
-    let mut value: u64 = 0;
-    let mut i = 0;
-    while i < word.len() {
-        let b = word[i];
-        if b < b'0' {
-            return Count::Bad;
-        }
-        if b'9' < b {
-            return Count::Bad;
-        }
-        value = value * 10 + (b - b'0') as u64;
-        if MOST < value {
-            return Count::Bad;
-        }
-        i += 1;
-    }
-    Count::Is(value as u32)
+    let n = read_digits(word, MOST)?;
+    Some(n as u32)
 }
 
 // What the words behind the command ask for.
@@ -126,14 +85,23 @@ pub struct Asked {
     pub help: bool,
     pub steps: bool,
     pub budget: u32,
-    // the place of the sheet's name among the words, 0 where there is none
-    pub sheet: usize,
+    // the place of the sheet's name among the words
+    pub sheet: Option<usize>,
     // the next word is the budget's number
     pub wants: bool,
 }
 
+// Why a word cannot be taken.
+#[derive(Clone, Copy, PartialEq, Eq)]
+pub enum Misused {
+    // the budget's number is no number
+    NoNumber,
+    // it cannot stand here
+    Unknown,
+}
+
 // Steps without --budget: a sheet that goes round for ever ends within a second.
-pub const BUDGET: u32 = 10000000;
+pub const BUDGET: u32 = 10_000_000;
 
 impl Asked {
     pub fn new() -> Self {
@@ -141,54 +109,25 @@ impl Asked {
             help: false,
             steps: false,
             budget: BUDGET,
-            sheet: 0,
+            sheet: None,
             wants: false,
         }
     }
 
-    // The word at a place, taken where it can be.
-    pub fn with(mut self, at: usize, word: &[u8]) -> Next {
+    // Takes the word at a place.
+    pub fn take(&mut self, at: usize, word: &[u8]) -> Result<(), Misused> {
         if self.wants {
-            let Count::Is(n) = count_of(word) else {
-                return Next::NoNumber;
-            };
-            self.budget = n;
+            self.budget = count_of(word).ok_or(Misused::NoNumber)?;
             self.wants = false;
-            return Next::Asked(self);
+            return Ok(());
         }
         match choice_of(word) {
-            Choice::Help => {
-                self.help = true;
-                Next::Asked(self)
-            }
-            Choice::Steps => {
-                self.steps = true;
-                Next::Asked(self)
-            }
-            Choice::Budget => {
-                self.wants = true;
-                Next::Asked(self)
-            }
-            Choice::Sheet => self.with_sheet(at),
-            Choice::Unknown => Next::Unknown,
+            Choice::Help => self.help = true,
+            Choice::Steps => self.steps = true,
+            Choice::Budget => self.wants = true,
+            Choice::Sheet if self.sheet.is_none() => self.sheet = Some(at),
+            Choice::Sheet | Choice::Unknown => return Err(Misused::Unknown),
         }
+        Ok(())
     }
-
-    // The sheet's name stands at a place; a second one is not understood.
-    fn with_sheet(mut self, at: usize) -> Next {
-        if self.sheet != 0 {
-            return Next::Unknown;
-        }
-        self.sheet = at;
-        Next::Asked(self)
-    }
-}
-
-#[derive(Clone, Copy)]
-pub enum Next {
-    Asked(Asked),
-    // the budget's number is no number
-    NoNumber,
-    // it cannot be taken
-    Unknown,
 }

@@ -3,16 +3,16 @@ use mathlib.Core.Path.{◌≡◌, sym, ap, ◌∙◌}
 use mathlib.Core.List.{List, ◌++◌}
 use Prim.Native.Nat.{ℕ, ◌≤◌}
 use lib.ListN.{length, take, drop, take-append-drop}
-use Rattle.numbers.specs.Limits.{tree_places, table_places, draft_places}
+use Rattle.std.specs.Prelude.{Result, Ok, Err}
+use Rattle.numbers.specs.declared.refusal.Refusal.{Refusal}
+use Rattle.numbers.specs.Refusals.{number_of}
+use Rattle.numbers.specs.Limits.{tree_places}
 use Rattle.tree.specs.Tree.{Block}
 use Rattle.grammar.specs.Grammar.{tree}
 use Rattle.grammar.specs.Source.{reading}
 use Rattle.parser.specs.Entry.{Answers, answers, Parses}
-use Rattle.parser.specs.declared.Parsed.{Parsed}
-use Rattle.parser.specs.declared.Parsed.TheVariants.{Tree, Refused as Declined}
 use Rattle.grammar.proofs.Names.{parse_named}
 use Rattle.translator.specs.declared.Translated.{Translated}
-use Rattle.translator.specs.declared.Translated.TheVariants.{Refused}
 use Rattle.translator.specs.Blocks.{BlockAt}
 use Rattle.translator.specs.Result.{Translates, code, refusal as failure}
 use Rattle.outcomes.specs.Accepted.{tree_read, unread, untranslated}
@@ -24,7 +24,7 @@ pub record Standing (src tr : List ℕ) : Type 0 where
   pub read : reading src ≡ tree block
   pub at : BlockAt src tr block
 
-pub standing : {src xs tr : List ℕ} {r : Parsed} {end : ℕ} → tree_places ≤ length xs → Parses src xs tr r → r ≡ Tree end → Standing src tr
+pub standing : {src xs tr : List ℕ} {r : Result ℕ Refusal} {end : ℕ} → tree_places ≤ length xs → Parses src xs tr r → r ≡ Ok end → Standing src tr
 unfolding Answers
 standing {src} {xs} {tr} {r} {end} h p e =
     let (b, (f, t)) = rw e at (answers h p) in
@@ -38,11 +38,11 @@ standing {src} {xs} {tr} {r} {end} h p e =
     }
 
 -- the parser's refusal
-pub passed_on : {src xs tr : List ℕ} {r : Parsed} {n : ℕ} (table draft : List ℕ) → tree_places ≤ length xs → Parses src xs tr r → r ≡ Declined n → Drafting src tr table draft (Refused n)
+pub passed_on : {src xs tr : List ℕ} {r : Result ℕ Refusal} {e : Refusal} (table draft : List ℕ) → tree_places ≤ length xs → Parses src xs tr r → r ≡ Err e → Drafting src tr table draft (Err e)
 unfolding Answers
-passed_on {src} {n = n} table draft h p e = refusal (unread src n (rw e at (answers h p)))
+passed_on {src} {e = n} table draft h p e = refusal (unread src (number_of n) (rw e at (answers h p)))
 
--- what the translator left in the parts that it was lent, of the whole lists
-pub drafting : {src tr : List ℕ} {t : Translated} (table draft : List ℕ) {ys es : List ℕ} → (s : Standing src tr) → take table_places table ≡ ys → take draft_places draft ≡ es → Translates s.block src ys es t → Drafting src tr table draft t
-drafting table draft s p q (code {m} {k} w) = ready {n = m} {k = k} (record { block = s.block; read = s.read; stands = s.at; whole = rw (p, q) w })
-drafting table draft s p q (failure e) = refusal (untranslated _ s.block _ s.read e)
+-- what the translator left
+pub drafting : {src tr : List ℕ} {t : Result Translated Refusal} (table draft : List ℕ) → (s : Standing src tr) → Translates s.block src table draft t → Drafting src tr table draft t
+drafting table draft s (code w) = ready (record { block = s.block; read = s.read; stands = s.at; whole = w })
+drafting table draft s (failure e) = refusal (untranslated _ s.block _ s.read e)

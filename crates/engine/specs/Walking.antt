@@ -1,12 +1,12 @@
 -- What walk's parts promise, and what its answer says as the outcome of the definitions.
-use Rattle.std.specs.Prelude.{◌≡◌, List, ℕ, ◌-◌, ◌≤◌, ℤ, length}
+use Rattle.std.specs.Prelude.{◌≡◌, Result, Ok, Err, List, ℕ, ◌-◌, ◌≤◌, ℤ, length}
 use Rattle.numbers.specs.Panel.{done}
 use Rattle.numbers.specs.Limits.{max_variables}
 use Rattle.numbers.specs.Lent.{onto}
 use Rattle.machine.specs.declared.runs.Ended.{Ended}
 use Rattle.walk.specs.declared.progress.Progress.{Progress}
-use Rattle.walk.specs.declared.progress.Outcome.{Outcome}
-use Rattle.walk.specs.declared.progress.Outcome.TheVariants.{Done, Refused}
+use Rattle.numbers.specs.declared.refusal.Refusal.{Refusal}
+use Rattle.numbers.specs.Refusals.{number_of}
 use Rattle.walk.specs.Walk.{Walked}
 use Rattle.outcomes.specs.Outcomes.{WalkOutcome}
 
@@ -18,15 +18,15 @@ refused_with n = record { number = n; out_len = 0; lines = 0; steps = 0 }
 abbrev pub ended_at : ℕ → Progress → ℕ → Ended
 ended_at n p budget = record { number = n; out_len = p.written; lines = p.lines; steps = budget - p.clock.left }
 
--- by its answer
-abbrev pub ended_of : Outcome → ℕ → Ended
-ended_of (Done p) budget = ended_at done p budget
-ended_of (Refused n p) budget = ended_at n p budget
+-- by how it ended
+abbrev pub ended_of : Progress → Result (Unit {0}) Refusal → ℕ → Ended
+ended_of p (Ok u) budget = ended_at done p budget
+ended_of p (Err e) budget = ended_at (number_of e) p budget
 
--- the budget that is left
-abbrev pub left_in : Outcome → ℕ
-left_in (Done p) = p.clock.left
-left_in (Refused n p) = p.clock.left
+-- the walk that was made, or the refusal for which none was
+abbrev pub ended_with : Result Ended Refusal → Ended
+ended_with (Ok r) = r
+ended_with (Err e) = refused_with (number_of e)
 
 -- the answer r to the walk x, and what it leaves in the lists that were lent
 pub record Leaves (x : Walked) (budget : ℕ) (vars : List ℤ) (out : List ℕ) (vars' : List ℤ) (out' : List ℕ) (r : Ended) : Type 0 where

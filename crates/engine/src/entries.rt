@@ -1,15 +1,17 @@
 // The public entry compile.
 ghost use Rattle.std.specs.Prelude.{◌≡◌, ◌&&◌, leb};
-ghost use Rattle.numbers.specs.Limits.{max_code, tree_places, table_places, draft_places};
+ghost use Rattle.numbers.specs.Limits.{max_code};
 ghost use Rattle.outcomes.specs.Outcomes.{compile_outcome};
-ghost use Rattle.engine.specs.Entries.{compiled_of};
+ghost use Rattle.engine.specs.Entries.{answer_of, compiled_of};
 
-use crate::drafts::{draft_text, length_in, number_in};
+use crate::drafts::draft_text;
 use crate::places::hand_out;
-use crate::rooms::{CODE, DRAFT, TABLE, TREE, wipe};
+use numbers::limits::{DRAFT_PLACES, MAX_CODE, TABLE_PLACES, TREE_PLACES};
+use numbers::refusal::Refusal;
+use translator::Translated;
 
-// "lent room too small"
-pub const ROOM_TOO_SMALL: u8 = 24;
+// "done"
+pub const DONE: u8 = 0;
 
 // Number and code length, 0 if refused.
 #[repr(C)]
@@ -19,30 +21,27 @@ pub struct Compiled {
     pub length: usize,
 }
 
+// What is answered to a text.
+fn answer(drafted: Result<Translated, Refusal>) -> Compiled
+    ensures { result ≡ answer_of drafted }
+{
+    match drafted {
+        Ok(translated) => Compiled {
+            number: DONE,
+            length: translated.code,
+        },
+        Err(why) => Compiled {
+            number: why.number(),
+            length: 0,
+        },
+    }
+}
+
 // Whether three lists have room for all code places.
 fn holds_code(kinds: usize, levels: usize, operands: usize) -> bool
     ensures { result ≡ (leb max_code kinds && leb max_code levels && leb max_code operands) }
 {
-    if kinds < CODE {
-        return false;
-    }
-    if levels < CODE {
-        return false;
-    }
-    CODE <= operands
-}
-
-// Whether the working room is large enough.
-pub fn holds_work(tree: usize, table: usize, draft: usize) -> bool
-    ensures { result ≡ (leb tree_places tree && leb table_places table && leb draft_places draft) }
-{
-    if tree < TREE {
-        return false;
-    }
-    if table < TABLE {
-        return false;
-    }
-    DRAFT <= draft
+    MAX_CODE <= kinds && MAX_CODE <= levels && MAX_CODE <= operands
 }
 
 // Compiles a text into the lent code places.
@@ -58,23 +57,21 @@ pub fn compile(
     ensures { compiled_of result kinds.new levels.new operands.new tree.new table.new draft.new ≡ compile_outcome text.now (record { kinds = kinds.old; levels = levels.old; operands = operands.old }) (record { tree = tree.old; table = table.old; draft = draft.old }) }
 {
     if !holds_code(kinds.len(), levels.len(), operands.len()) {
-        return Compiled {
-            number: ROOM_TOO_SMALL,
-            length: 0,
-        };
+        return answer(Err(Refusal::RoomTooSmall));
     }
-    if !holds_work(tree.len(), table.len(), draft.len()) {
-        return Compiled {
-            number: ROOM_TOO_SMALL,
-            length: 0,
-        };
-    }
-    let t = draft_text(text, tree, table, draft);
-    let n = length_in(t);
-    hand_out(draft, n, kinds, levels, operands);
-    wipe(tree, table, draft);
-    Compiled {
-        number: number_in(t),
-        length: n,
-    }
+    let Some(tree) = tree.first_chunk_mut::<TREE_PLACES>() else {
+        return answer(Err(Refusal::RoomTooSmall));
+    };
+    let Some(table) = table.first_chunk_mut::<TABLE_PLACES>() else {
+        return answer(Err(Refusal::RoomTooSmall));
+    };
+    let Some(draft) = draft.first_chunk_mut::<DRAFT_PLACES>() else {
+        return answer(Err(Refusal::RoomTooSmall));
+    };
+    let compiled = answer(draft_text(text, tree, table, draft));
+    hand_out(draft, compiled.length, kinds, levels, operands);
+    tree.fill(0);
+    table.fill(0);
+    draft.fill(0);
+    compiled
 }

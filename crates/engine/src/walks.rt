@@ -1,88 +1,69 @@
 // The public entry walk: a text that compile accepts, worked out on its tree.
-ghost use Rattle.std.specs.Prelude.{◌≡◌, List, ℕ, ◌≤◌, pos, length, replicate};
-ghost use Rattle.numbers.specs.Limits.{max_variables, table_places};
+ghost use Rattle.std.specs.Prelude.{◌≡◌, ◌≤◌, pos, length, replicate};
+ghost use Rattle.numbers.specs.Limits.{max_variables};
 ghost use Rattle.numbers.specs.Lent.{onto};
+ghost use Rattle.numbers.specs.Refusals.{number_of};
 ghost use Rattle.outcomes.specs.Compile.{walk};
 ghost use Rattle.outcomes.specs.Outcomes.{walk_outcome};
-ghost use Rattle.engine.specs.Entries.{Drafting};
-ghost use Rattle.engine.specs.Walking.{refused_with, ended_at, ended_of, left_in, Leaves, walked_of};
+ghost use Rattle.engine.specs.Walking.{refused_with, ended_of, ended_with, Leaves, walked_of};
 
 use crate::drafts::draft_text;
-use crate::entries::{ROOM_TOO_SMALL, holds_work};
-use crate::rooms::{TABLE, VARIABLES, wipe};
+use crate::entries::DONE;
 use machine::Ended;
-use numbers::room::clear_i64;
-use translator::Translated;
-use walk::progress::{Outcome, Progress};
-
-// The panel's numbers.
-const DONE: u8 = 0;
-
-const PROCEDURE_IN_TREE: u8 = 25;
+use numbers::limits::{DRAFT_PLACES, MAX_ROWS, TABLE_PLACES, TREE_PLACES};
+use numbers::refusal::Refusal;
+use walk::progress::Progress;
+use walk::{holds_procedure, walk_tree};
 
 // No step was made.
-fn refused(n: u8) -> Ended
-    ensures { result ≡ refused_with n }
+fn refused(why: Refusal) -> Ended
+    ensures { result ≡ refused_with (number_of why) }
 {
     Ended {
-        number: n,
+        number: why.number(),
         out_len: 0,
         lines: 0,
         steps: 0,
     }
 }
 
-// What was counted up to the end.
-fn ended_at(n: u8, p: Progress, budget: u32) -> Ended
-    requires { p.clock.left ≤ budget }
-    ensures { result ≡ ended_at n p budget }
+// How a walk ended, and what was counted up to there.
+fn ended(progress: Progress, end: Result<(), Refusal>, budget: u32) -> Ended
+    requires { progress.clock.left ≤ budget }
+    ensures { result ≡ ended_of progress end budget }
 {
-    let c = p.clock;
+    let number = match end {
+        Ok(()) => DONE,
+        Err(why) => why.number(),
+    };
     Ended {
-        number: n,
-        out_len: p.written,
-        lines: p.lines,
-        steps: budget - c.left,
+        number,
+        out_len: progress.written,
+        lines: progress.lines,
+        steps: budget - progress.clock.left,
     }
 }
 
-// How a walk ended.
-fn ended(o: Outcome, budget: u32) -> Ended
-    requires { left_in o ≤ budget }
-    ensures { result ≡ ended_of o budget }
-{
-    match o {
-        Outcome::Done(p) => ended_at(DONE, p, budget),
-        Outcome::Refused(n, p) => ended_at(n, p, budget),
-    }
-}
-
-// The walk of a text that was read and translated, or its refusal; the variables are zero before it.
-fn walk_drafted(
-    t: Translated,
+// The walk of a text, or the refusal for which none was made; the variables are zero before it.
+fn walk_text(
     text: &[u8],
-    tree: &[u32],
-    table: &[u32],
     input: &[u8],
     budget: u32,
-    vars: &mut [i64],
     out: &mut [u8],
-) -> Ended
-    requires drafted { (draft : List ℕ) × Drafting text.now tree.now table.now draft t }
-    requires table_places_in_bounds { table_places ≤ length table.now }
-    requires vars_cleared { vars.old ≡ onto vars.old (replicate max_variables (pos 0)) }
-    ensures { Leaves (walk text.now input.now budget (length out.old)) budget vars.old out.old vars.new out.new result }
+    vars: &mut [i64],
+    tree: &mut [u32; TREE_PLACES],
+    table: &mut [u32; TABLE_PLACES],
+    draft: &mut [u32; DRAFT_PLACES],
+) -> Result<Ended, Refusal>
+    requires { vars.old ≡ onto vars.old (replicate max_variables (pos 0)) }
+    ensures { Leaves (walk text.now input.now budget (length out.old)) budget vars.old out.old vars.new out.new (ended_with result) }
 {
-    match t {
-        Translated::Length(_, used) => {
-            if walk::holds_procedure(tree) {
-                return refused(PROCEDURE_IN_TREE);
-            }
-            let o = walk::walk_tree(text, tree, &table[..TABLE], used, input, budget, vars, out);
-            ended(o, budget)
-        }
-        Translated::Refused(n) => refused(n),
+    let translated = draft_text(text, tree, table, draft)?;
+    if holds_procedure(tree) {
+        return Err(Refusal::ProcedureInTree);
     }
+    let (progress, end) = walk_tree(text, tree, table, translated.rows, input, budget, vars, out);
+    Ok(ended(progress, end, budget))
 }
 
 // Works a text out on its tree.
@@ -98,15 +79,23 @@ pub fn walk(
 ) -> Ended
     ensures { walked_of result out.new vars.new tree.new table.new draft.new ≡ walk_outcome text.now input.now budget out.old vars.old (record { tree = tree.old; table = table.old; draft = draft.old }) }
 {
-    if vars.len() < VARIABLES {
-        return refused(ROOM_TOO_SMALL);
+    if vars.len() < MAX_ROWS {
+        return refused(Refusal::RoomTooSmall);
     }
-    if !holds_work(tree.len(), table.len(), draft.len()) {
-        return refused(ROOM_TOO_SMALL);
-    }
-    clear_i64(vars, 0, VARIABLES);
-    let t = draft_text(text, tree, table, draft);
-    let e = walk_drafted(t, text, tree, table, input, budget, vars, out);
-    wipe(tree, table, draft);
-    e
+    let Some(tree) = tree.first_chunk_mut::<TREE_PLACES>() else {
+        return refused(Refusal::RoomTooSmall);
+    };
+    let Some(table) = table.first_chunk_mut::<TABLE_PLACES>() else {
+        return refused(Refusal::RoomTooSmall);
+    };
+    let Some(draft) = draft.first_chunk_mut::<DRAFT_PLACES>() else {
+        return refused(Refusal::RoomTooSmall);
+    };
+    vars[..MAX_ROWS].fill(0);
+    let walked = walk_text(text, input, budget, out, vars, tree, table, draft);
+    let ended = walked.unwrap_or_else(refused);
+    tree.fill(0);
+    table.fill(0);
+    draft.fill(0);
+    ended
 }

@@ -1,16 +1,16 @@
 -- Laws of tables of spellings: a row is met or passed over, and only rows of the right length count.
 use mathlib.Core.Path.{◌≡◌, refl, sym, ◌∙◌, ap}
-use Prim.Native.Nat.{ℕ, ◌+◌}
+use Prim.Native.Nat.{ℕ, ◌+◌, ◌≤◌, ◌<◌}
 use Prim.Native.Char.{code}
 use mathlib.Core.List.{List, [], ◌∷◌}
-use mathlib.Core.Bool.{Bool, true, false, ◌&&◌}
+use mathlib.Core.Bool.{Bool, true, false}
 use mathlib.Core.Option.{none}
+use native.Mathlib.Numerals.{add-one}
 use native.Mathlib.Omega.{arith}
 use lib.Dec.{eqb}
-use lib.Pointwise.{pointwise}
-use Rattle.std.proofs.lemmas.Slice.Eq.{bytes_eq-Decides}
-use lib.ListN.{length, get_or, take}
-use borrow.Author.Tests.{eqb-false, ne_eqb}
+use lib.ListN.{length, get_or, take, drop, drop_of_length-le}
+use lib.Seq.{drop-cons}
+use borrow.Author.Tests.{eqb-true, eqb-false, ne_eqb, eq-eqb}
 use Rattle.numbers.specs.Bytes.{bytes, eq_list}
 use Rattle.lexer.specs.Marks.{Mark, keywords, pairs, singles, spelt}
 use Rattle.lexer.specs.Spelling.{token_of, named, sign_of}
@@ -28,6 +28,23 @@ other_length (x ∷ a) (y ∷ b) h = by (eqb x y) refl (other_length a b (λ e. 
     by : (t : Bool) → eqb x y ≡ t → eq_list a b ≡ false → eq_list (x ∷ a) (y ∷ b) ≡ false
     by true e k = rw (e, eq_list) k
     by false e k = rw (e, eq_list)
+
+-- a comparison that has come to i
+module _ (a b : List ℕ) (i : ℕ) (m : length a ≡ length b) where
+  pub same_more : i < length a → get_or a i 0 ≡ get_or b i 0 → eq_list (drop i a) (drop i b) ≡ eq_list (drop (i + 1) a) (drop (i + 1) b)
+  same_more h e =
+      let k : i < length b = omega arith in
+      rw (add-one, drop-cons a i 0 h, drop-cons b i 0 k, eq-eqb _ _ e, eq_list)
+
+  pub same_stop : i < length a → (get_or a i 0 ≡ get_or b i 0 → ⊥) → eq_list (drop i a) (drop i b) ≡ false
+  same_stop h e =
+      let k : i < length b = omega arith in
+      rw (drop-cons a i 0 h, drop-cons b i 0 k, ne_eqb _ _ e, eq_list)
+
+  pub same_past : length a ≤ i → true ≡ eq_list (drop i a) (drop i b)
+  same_past h =
+      let k : length b ≤ i = omega arith in
+      rw (drop_of_length-le a h, drop_of_length-le b k)
 
 pub spelt_none : (w : List ℕ) → spelt w [] ≡ none
 unfolding spelt
@@ -87,24 +104,20 @@ pub one_sign : (i b d : ℕ) (t : Token) → spelt (b ∷ d ∷ []) pairs ≡ no
 unfolding sign_of
 one_sign i b d t e h = rw (e, h, sign_of)
 
--- what `==` of slices answers
-same_lists : (a b : List ℕ) → pointwise eqb a b ≡ eq_list a b
-same_lists [] [] = refl
-same_lists [] (y ∷ b) = refl
-same_lists (x ∷ a) [] = refl
-same_lists (x ∷ a) (y ∷ b) = go (eqb x y) (same_lists a b)
+-- lists that are found to be the same are
+equal_lists : (a b : List ℕ) → eq_list a b ≡ true → a ≡ b
+equal_lists [] [] e = refl
+equal_lists [] (y ∷ b) e = cc
+equal_lists (x ∷ a) [] e = cc
+equal_lists (x ∷ a) (y ∷ b) e = go (eqb x y) refl (equal_lists a b) e
   where
-    go : (t : Bool) {r s : Bool} → r ≡ s → (t && r) ≡ elim t [ true ↦ s | false ↦ false ]
-    go true e = e
-    go false e = refl
+    go : (t : Bool) → eqb x y ≡ t → (eq_list a b ≡ true → a ≡ b) → elim t [ true ↦ eq_list a b | false ↦ false ] ≡ true → (x ∷ a) ≡ (y ∷ b)
+    go true q f z = let h : x ≡ y = eqb-true x y q in let k : a ≡ b = f z in cc
+    go false q f z = cc
 
--- a word that is compared with a keyword: it is that, or not
-module _ (w : List ℕ) {a k : List ℕ} {r : Bool} (is : r ≡ pointwise eqb w a) where
-  pub keyword_is : r ≡ true → a ≡ k → (o : Token) {t : Token} → t ≡ named k keywords o → t ≡ named w keywords o
-  keyword_is e q o z = let i : w ≡ k = (bytes_eq-Decides w a).0 (sym is ∙ e) ∙ q in rw i z
-
-  pub keyword_not : r ≡ false → a ≡ k → eq_list w k ≡ false
-  keyword_not e q = ap (eq_list w) (sym q) ∙ sym (same_lists w a) ∙ sym is ∙ e
+-- a word that is compared with a keyword and is that
+pub keyword_is : (w k : List ℕ) {r : Bool} → r ≡ eq_list w k → r ≡ true → (o : Token) {t : Token} → t ≡ named k keywords o → t ≡ named w keywords o
+keyword_is w k is e o z = let i : w ≡ k = equal_lists w k (sym is ∙ e) in rw i z
 
 -- a sign of two bytes is not of one
 short : (b : ℕ) → spelt (b ∷ []) pairs ≡ none

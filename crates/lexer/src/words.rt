@@ -1,5 +1,6 @@
 // Words: the keywords and the names.
 ghost use Rattle.std.specs.Prelude.{◌≡◌, ◌<◌, length, drop};
+ghost use Rattle.numbers.specs.Bytes.{eq_list};
 ghost use Rattle.lexer.specs.Marks.{keywords};
 ghost use Rattle.lexer.specs.Tokens.{word_at};
 ghost use Rattle.lexer.specs.Meaning.{Shows};
@@ -9,39 +10,55 @@ use crate::bytes::{byte_at, past};
 use crate::token::{Lexed, Token};
 use numbers::bytes::is_word_byte;
 
+// Whether two lists of bytes are the same. With a short list that is known this is compared in place, where `==` of slices
+// would be a call.
+fn same(a: &[u8], b: &[u8]) -> bool
+    ensures { result ≡ eq_list a.now b.now }
+{
+    if a.len() != b.len() {
+        return false;
+    }
+    for i in 0..a.len() {
+        if a[i] != b[i] {
+            return false;
+        }
+    }
+    true
+}
+
 // The keyword that is spelt so, or else the name.
 fn keyword(w: &[u8], name: Token) -> Token
     ensures { result ≡ named w.now keywords name }
 {
-    if w == b"if".as_slice() {
+    if same(w, b"if") {
         Token::If
-    } else if w == b"then".as_slice() {
+    } else if same(w, b"then") {
         Token::Then
-    } else if w == b"else".as_slice() {
+    } else if same(w, b"else") {
         Token::Else
-    } else if w == b"while".as_slice() {
+    } else if same(w, b"while") {
         Token::While
-    } else if w == b"do".as_slice() {
+    } else if same(w, b"do") {
         Token::Do
-    } else if w == b"const".as_slice() {
+    } else if same(w, b"const") {
         Token::Const
-    } else if w == b"var".as_slice() {
+    } else if same(w, b"var") {
         Token::Var
-    } else if w == b"procedure".as_slice() {
+    } else if same(w, b"procedure") {
         Token::Procedure
-    } else if w == b"program".as_slice() {
+    } else if same(w, b"program") {
         Token::Program
-    } else if w == b"begin".as_slice() {
+    } else if same(w, b"begin") {
         Token::Begin
-    } else if w == b"end".as_slice() {
+    } else if same(w, b"end") {
         Token::End
-    } else if w == b"call".as_slice() {
+    } else if same(w, b"call") {
         Token::Call
-    } else if w == b"read".as_slice() {
+    } else if same(w, b"read") {
         Token::Read
-    } else if w == b"write".as_slice() {
+    } else if same(w, b"write") {
         Token::Write
-    } else if w == b"odd".as_slice() {
+    } else if same(w, b"odd") {
         Token::Odd
     } else {
         name

@@ -3,11 +3,13 @@ ghost use Rattle.std.specs.Prelude.{◌≡◌, ◌+◌, ◌≤◌, length};
 ghost use Rattle.numbers.specs.Bytes.{bytes};
 ghost use Rattle.numbers.specs.Screen.{decimal};
 ghost use Rattle.numbers.specs.Answers.{Wrote, Puts};
-ghost use Rattle.pcode.specs.Code.{Op, ins, kind_of};
+ghost use Rattle.pcode.specs.Code.{Op, ins};
+ghost use Rattle.pcode.specs.Coded.{op_of, instr_of};
 ghost use Rattle.listing.specs.Listing.{letters, right_aligned, line_of};
 
-use numbers::screen::{Put, decimal_length, digit_count, fill_decimal, fill_digits, has_room};
-use pcode::{CAL, INT, JMP, JPC, LIT, LOD, OPR, RED, STA, STO, WRT};
+use numbers::refusal::Refusal;
+use numbers::screen::{decimal_length, digit_count, fill_decimal, fill_digits, has_room};
+use pcode::{Instruction, Kind};
 
 // The least width of a column.
 const COLUMN: usize = 4;
@@ -15,47 +17,32 @@ const COLUMN: usize = 4;
 // The bytes of a line beside its two columns and its operand: `| `, three letters, a space, three spaces and the newline.
 const FIXED: usize = 10;
 
-// The three letters of a kind; any other number counts as NIL.
-fn letters_of(kind: i8) -> [u8; 3]
-    ensures { result ≡ bytes (letters (kind_of kind)) }
+// The three letters of a kind.
+fn letters_of(kind: Kind) -> [u8; 3]
+    ensures { result ≡ bytes (letters (op_of kind)) }
 {
     match kind {
-        LIT => *b"LIT",
-        OPR => *b"OPR",
-        LOD => *b"LOD",
-        STO => *b"STO",
-        STA => *b"STA",
-        CAL => *b"CAL",
-        INT => *b"INT",
-        JMP => *b"JMP",
-        JPC => *b"JPC",
-        RED => *b"RED",
-        WRT => *b"WRT",
-        _ => *b"NIL",
+        Kind::Nil => *b"NIL",
+        Kind::Lit => *b"LIT",
+        Kind::Opr => *b"OPR",
+        Kind::Lod => *b"LOD",
+        Kind::Sto => *b"STO",
+        Kind::Sta => *b"STA",
+        Kind::Cal => *b"CAL",
+        Kind::Int => *b"INT",
+        Kind::Jmp => *b"JMP",
+        Kind::Jpc => *b"JPC",
+        Kind::Red => *b"RED",
+        Kind::Wrt => *b"WRT",
     }
 }
 
 // How many bytes a number takes in a column.
+#[tactic(auto, using(crate::proofs::Columns::column_short, crate::proofs::Columns::column_long))]
 fn column_length(n: u64) -> usize
     ensures { result ≡ length (right_aligned n) }
 {
-    let digits = digit_count(n);
-    if digits < COLUMN {
-        return COLUMN;
-    }
-    digits
-}
-
-// Fills a part of the line with a text as long as it.
-fn fill(part: &mut [u8], text: &[u8])
-    requires { length part.old ≡ length text.now }
-    ensures { part.new ≡ text.now }
-{
-    let mut i = 0;
-    while i < text.len() {
-        part[i] = text[i];
-        i = i + 1;
-    }
+    digit_count(n).max(COLUMN)
 }
 
 // Fills a part of the line, as long as the column of n, with it: blanks first, and the digits over the last of them.
@@ -63,7 +50,7 @@ fn fill_column(part: &mut [u8], n: u64)
     requires { length part.old ≡ length (right_aligned n) }
     ensures { part.new ≡ right_aligned n }
 {
-    fill(&mut part[..COLUMN], b"    ");
+    part[..COLUMN].copy_from_slice(b"    ");
     let first = part.len() - digit_count(n);
     fill_digits(&mut part[first..], n);
 }
@@ -72,7 +59,7 @@ fn fill_column(part: &mut [u8], n: u64)
 fn line_length(index: u64, level: u16, operand: i64) -> usize
     ensures { (o : Op) → result ≡ length (line_of index (ins o level operand)) }
 {
-    column_length(index) + column_length(level as u64) + decimal_length(operand) + FIXED
+    column_length(index) + column_length(u64::from(level)) + decimal_length(operand) + FIXED
 }
 
 // Writes a text at a place of the output, and tells where the next bytes go.
@@ -81,7 +68,7 @@ fn write_text(out: &mut [u8], at: usize, text: &[u8]) -> usize
     ensures { Wrote text.now at out.old out.new result }
 {
     let end = at + text.len();
-    fill(&mut out[at..end], text);
+    out[at..end].copy_from_slice(text);
     end
 }
 
@@ -106,28 +93,28 @@ fn write_decimal(out: &mut [u8], at: usize, x: i64) -> usize
 }
 
 // So the line of an instruction, piece by piece.
-fn write_line(out: &mut [u8], at: usize, index: u64, kind: i8, level: u16, operand: i64) -> usize
-    requires { at + length (line_of index (ins (kind_of kind) level operand)) ≤ length out.old }
-    ensures { Wrote (line_of index (ins (kind_of kind) level operand)) at out.old out.new result }
+fn write_line(out: &mut [u8], at: usize, index: u64, i: Instruction) -> usize
+    requires { at + length (line_of index (instr_of i)) ≤ length out.old }
+    ensures { Wrote (line_of index (instr_of i)) at out.old out.new result }
 {
-    let letters = letters_of(kind);
+    let letters = letters_of(i.kind);
     let at = write_column(out, at, index);
     let at = write_text(out, at, b"| ");
     let at = write_text(out, at, &letters);
     let at = write_text(out, at, b" ");
-    let at = write_column(out, at, level as u64);
+    let at = write_column(out, at, u64::from(i.level));
     let at = write_text(out, at, b"   ");
-    let at = write_decimal(out, at, operand);
+    let at = write_decimal(out, at, i.operand);
     write_text(out, at, b"\n")
 }
 
 // Puts the line of an instruction at a place of the output, if it fits there: the room for all of it is tested before the
 // first byte.
-pub fn put_line(out: &mut [u8], at: usize, index: u64, kind: i8, level: u16, operand: i64) -> Put
-    ensures { Puts (line_of index (ins (kind_of kind) level operand)) at out.old out.new result }
+pub fn put_line(out: &mut [u8], at: usize, index: u64, i: Instruction) -> Result<usize, Refusal>
+    ensures { Puts (line_of index (instr_of i)) at out.old out.new result }
 {
-    if !has_room(out.len(), at, line_length(index, level, operand)) {
-        return Put::Full;
+    if !has_room(out.len(), at, line_length(index, i.level, i.operand)) {
+        return Err(Refusal::OutputFull);
     }
-    Put::At(write_line(out, at, index, kind, level, operand))
+    Ok(write_line(out, at, index, i))
 }

@@ -4,18 +4,12 @@ ghost use Rattle.listing.specs.Outcome.{list_outcome};
 ghost use Rattle.listing.specs.Answers.{listed_of};
 
 use crate::line::put_line;
-use numbers::screen::Put;
-use pcode::code_length;
+use numbers::limits::MAX_CODE;
+use numbers::refusal::Refusal;
+use pcode::Code;
 
-// Instructions in a code list.
-const MAX_CODE: usize = 4096;
-
-// The numbers of the panel that a listing gives.
+// The number of the panel for a listing that is whole.
 const DONE: u8 = 0;
-
-const TOO_MANY_INSTRUCTIONS: u8 = 15;
-
-const OUTPUT_FULL: u8 = 23;
 
 // Number, bytes written.
 #[repr(C)]
@@ -29,24 +23,29 @@ pub struct Listed {
 pub fn list(kinds: &[i8], levels: &[u16], operands: &[i64], out: &mut [u8]) -> Listed
     ensures { listed_of result out.new ≡ list_outcome (record { kinds = kinds.now; levels = levels.now; operands = operands.now }) out.old }
 {
-    let places = code_length(kinds, levels, operands);
+    let code = Code {
+        kinds,
+        levels,
+        operands,
+    };
+    let places = code.len();
     if MAX_CODE < places {
         return Listed {
-            number: TOO_MANY_INSTRUCTIONS,
+            number: Refusal::TooManyInstructions.number(),
             out_len: 0,
         };
     }
     let mut at = 0;
-    let mut i = 0;
-    while i < places {
-        let Put::At(next) = put_line(out, at, i as u64, kinds[i], levels[i], operands[i]) else {
-            return Listed {
-                number: OUTPUT_FULL,
-                out_len: at,
-            };
-        };
-        at = next;
-        i = i + 1;
+    for i in 0..places {
+        match put_line(out, at, i as u64, code.get(i)) {
+            Ok(next) => at = next,
+            Err(refusal) => {
+                return Listed {
+                    number: refusal.number(),
+                    out_len: at,
+                };
+            }
+        }
     }
     Listed {
         number: DONE,

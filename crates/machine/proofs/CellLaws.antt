@@ -1,15 +1,15 @@
--- Laws of cells: the number that the code computes is the cell that the definition names, or 4,096 where there is none.
+-- Laws of cells: the number that the code computes is the cell that the definition names.
 use mathlib.Core.Path.{◌≡◌, refl, sym, ap, ◌∙◌}
 use mathlib.Core.Bool.{Bool, true, false}
 use mathlib.Core.List.{List, [], ◌∷◌}
-use mathlib.Core.Option.{Option, none, some}
+use mathlib.Core.Option.{none, some}
 use Prim.Native.Nat.{ℕ, zero, suc, ◌+◌, ◌-◌, ◌≤◌, ◌<◌}
 use native.Mathlib.Omega.{arith}
-use lib.IntN.{ℤ, pos, negsuc, nat_abs, ◌+ℤ◌, ◌-ℤ◌}
-use lib.Signed.{lt_z, le_z, non_neg}
+use lib.IntN.{ℤ, pos, negsuc, nat_abs, ◌-ℤ◌}
+use lib.Signed.{lt_z, non_neg}
 use lib.Dec.{T}
 use lib.ListN.{length, get_or, set}
-use borrow.Author.Tests.{ltb-true, ltb-false, leb-true, leb-false, lt-ltb, le-ltb}
+use borrow.Author.Tests.{ltb-true, lt-ltb, le-ltb}
 use mir.Syntax.{w64}
 use mir.Val.{Fits, SFits}
 use mir.ValLaws.{to_z-of_z}
@@ -34,71 +34,46 @@ pub cell_out : {i : ℕ} → max_cells ≤ i → cell_at (pos i) ≡ none
 unfolding cell_at
 cell_out {i} h = rw (le-ltb i max_cells h, cell_at)
 
--- a base or an operand that is negative or too large names no cell
-pub low_base : (b a : ℤ) → lt_z b (pos 0) ≡ true → cell_at (pos max_cells) ≡ from_by b a
-unfolding cell_at from from_by
+-- a base or an operand that is negative names no cell
+pub low_base : (b a : ℤ) → lt_z b (pos 0) ≡ true → from_by b a ≡ none
+unfolding from from_by
 low_base (pos b) a h = absurd (omega (arith, ltb-true b 0 h))
 low_base (negsuc b) (pos a) h = refl
 low_base (negsuc b) (negsuc a) h = refl
 
-pub high_base : (b a : ℤ) → le_z (pos max_cells) b ≡ true → cell_at (pos max_cells) ≡ from_by b a
-unfolding cell_at from from_by
-high_base (pos b) (pos a) h = rw (le-ltb (b + a) max_cells (omega (arith, leb-true max_cells b h)), cell_at)
-high_base (pos b) (negsuc a) h = refl
-high_base (negsuc b) a h = absurd (clash (sym h))
-
-pub low_operand : (b a : ℤ) → lt_z a (pos 0) ≡ true → cell_at (pos max_cells) ≡ from_by b a
-unfolding cell_at from_by
+pub low_operand : (b a : ℤ) → lt_z a (pos 0) ≡ true → from_by b a ≡ none
+unfolding from_by
 low_operand b (pos a) h = absurd (omega (arith, ltb-true a 0 h))
 low_operand b (negsuc a) h = refl
 
-pub high_operand : (b a : ℤ) → le_z (pos max_cells) a ≡ true → cell_at (pos max_cells) ≡ from_by b a
-unfolding cell_at from from_by
-high_operand (pos b) (pos a) h = rw (le-ltb (b + a) max_cells (omega (arith, leb-true max_cells a h)), cell_at)
-high_operand (negsuc b) (pos a) h = refl
-high_operand b (negsuc a) h = absurd (clash (sym h))
-
 -- the sum of the others is the number of the cell
-pub record Sum (b a : ℤ) : Type 0 where
-  pub fits : SFits w64 (b +ℤ a)
-  pub sign : T (non_neg (b +ℤ a))
-  pub range : Fits w64 (nat_abs (b +ℤ a))
-  pub cell : cell_at (pos (nat_abs (b +ℤ a))) ≡ from_by b a
-
-pub sum : (b a : ℤ) → lt_z b (pos 0) ≡ false → le_z (pos max_cells) b ≡ false → lt_z a (pos 0) ≡ false → le_z (pos max_cells) a ≡ false → Sum b a
+pub sum_cell : (b a : ℤ) → lt_z b (pos 0) ≡ false → lt_z a (pos 0) ≡ false → from_by b a ≡ cell_at (pos (nat_abs b + nat_abs a))
 unfolding from from_by
-sum (pos b) (pos a) h k h' k' =
-    let x : b < max_cells = leb-false max_cells b k in
-    let y : a < max_cells = leb-false max_cells a k' in
-    record { fits = record { sfits = omega arith }; sign = tt; range = record { fits = omega arith }; cell = refl }
-sum (negsuc b) a h k h' k' = absurd (clash h)
-sum (pos b) (negsuc a) h k h' k' = absurd (clash h')
-
--- as the code reads it
-pub sum_read : (b a : ℤ) → SFits w64 b → SFits w64 a → Sum b a → back (back b +ℤ back a) ≡ b +ℤ a
-sum_read b a hb ha s = rw (to_z-of_z w64 b hb, to_z-of_z w64 a ha) (to_z-of_z w64 (b +ℤ a) s.fits)
+sum_cell (pos b) (pos a) h k = refl
+sum_cell (negsuc b) a h k = absurd (clash h)
+sum_cell (pos b) (negsuc a) h k = absurd (clash k)
 
 -- up the static links, one level
-pub up_out : (cs : List ℤ) (l : ℕ) (b : ℤ) {i : ℕ} → 0 < l → cell_at (pos i) ≡ from_by b (pos 1) → max_cells ≤ i → up cs l b ≡ none
+pub up_out : (cs : List ℤ) (l : ℕ) (b : ℤ) → 0 < l → from_by b (pos 1) ≡ none → up cs l b ≡ none
 unfolding up from_by
-up_out cs zero b p e h = absurd (omega arith)
-up_out cs (suc l) b p e h = let n : from b 1 ≡ none = sym e ∙ cell_out h in rw (n, up)
+up_out cs zero b p e = absurd (omega arith)
+up_out cs (suc l) b p e = rw (e, up)
 
-pub up_on : (cs : List ℤ) (l : ℕ) (b : ℤ) {i : ℕ} → 0 < l → cell_at (pos i) ≡ from_by b (pos 1) → i < max_cells → up cs l b ≡ up cs (l - 1) (held cs i)
+pub up_on : (cs : List ℤ) (l : ℕ) (b : ℤ) {i : ℕ} → 0 < l → from_by b (pos 1) ≡ some i → up cs l b ≡ up cs (l - 1) (held cs i)
 unfolding up from_by
-up_on cs zero b p e h = absurd (omega arith)
-up_on cs (suc l) b {i} p e h = let n : from b 1 ≡ some i = sym e ∙ cell_in h in let k : suc l - 1 ≡ l = omega arith in rw (n, k, up)
+up_on cs zero b p e = absurd (omega arith)
+up_on cs (suc l) b {i} p e = let k : suc l - 1 ≡ l = omega arith in rw (e, k, up)
 
 -- the cell of a level and an operand
-pub there_none : (cs : List ℤ) (l : ℕ) (a b : ℤ) → up cs l b ≡ none → cell_at (pos max_cells) ≡ there_by cs l a b
-unfolding cell_at there_by
+pub there_none : (cs : List ℤ) (l : ℕ) (a b : ℤ) → up cs l b ≡ none → there_by cs l a b ≡ none
+unfolding there_by
 there_none cs l (pos a) b e = rw e
 there_none cs l (negsuc a) b e = refl
 
-pub there_some : (cs : List ℤ) (l : ℕ) (a b : ℤ) {z : ℤ} {o : Option ℕ} → up cs l b ≡ some z → o ≡ from_by z a → o ≡ there_by cs l a b
+pub there_some : (cs : List ℤ) (l : ℕ) (a b : ℤ) {z : ℤ} → up cs l b ≡ some z → there_by cs l a b ≡ from_by z a
 unfolding from_by there_by
-there_some cs l (pos a) b e h = rw e h
-there_some cs l (negsuc a) b e h = h
+there_some cs l (pos a) b e = rw e
+there_some cs l (negsuc a) b e = refl
 
 pub there_by_lem : (m : Machine) (l : ℕ) (a : ℤ) → there m l a ≡ there_by m.cells l a m.base
 unfolding there there_by
@@ -131,14 +106,6 @@ under_out t (suc l) h = rw (lt-ltb t (suc l) h)
 pub whole : (a : ℤ) → SFits w64 a → lt_z a (pos 0) ≡ false → T (non_neg a) × Fits w64 (nat_abs a)
 whole (pos a) f h = (tt, record { fits = omega (arith, f.sfits) })
 whole (negsuc a) f h = absurd (clash h)
-
-pub large : (a : ℤ) → lt_z (pos max_cells) a ≡ true → max_cells < nat_abs a
-large (pos a) h = ltb-true max_cells a h
-large (negsuc a) h = absurd (clash (sym h))
-
-pub small : (a : ℤ) → lt_z a (pos 0) ≡ false → lt_z (pos max_cells) a ≡ false → nat_abs a ≤ max_cells
-small (pos a) h k = ltb-false max_cells a k
-small (negsuc a) h k = absurd (clash h)
 
 -- a top that is not 0
 pub some_top : {t : ℕ} → (t ≡ 0 → ⊥) → 0 < t

@@ -5,21 +5,23 @@ use Prim.Native.Nat.{ℕ, zero, suc, ◌+◌, ◌-◌, ◌≤◌, ◌<◌}
 use native.Mathlib.Omega.{arith}
 use lib.IntN.{ℤ, pos}
 use lib.ListN.{length, take, drop, replicate, take-append-drop, length-replicate}
-use lib.Seq.{length-take-le, take_at, drop_at, drop-drop}
+use lib.Seq.{length-take-le, drop-drop}
 use borrow.Author.Tests.{le-leb, lt-leb}
 use Rattle.numbers.specs.Panel.{done, too_many_instructions, budget_spent, room_too_small}
 use Rattle.numbers.specs.Limits.{max_code, max_cells}
-use Rattle.numbers.specs.Lent.{onto, filling}
-use Rattle.numbers.proofs.Putting.{filling_whole}
-use Rattle.pcode.specs.Code.{Instr, Code, places_in, instrs_in}
-use Rattle.pcode.specs.PlaceLaws.{kinds_enough, levels_enough, operands_enough, length_instrs}
+use Rattle.numbers.specs.Lent.{onto}
+use Rattle.pcode.specs.Code.{Instr, Code, instrs_in}
+use Rattle.pcode.specs.PlaceLaws.{in_kinds, in_levels, in_operands}
 use Rattle.machine.specs.declared.frames.Frame.{Frame}
 use Rattle.machine.specs.declared.steps.Does.{Does}
 use Rattle.machine.specs.declared.steps.Does.TheVariants as D
 use Rattle.machine.specs.declared.talk.Talk.{Talk}
 use Rattle.machine.specs.declared.talk.Talk.TheVariants.{Write, NewLine, Read}
 use Rattle.machine.specs.declared.talk.Tape.{Tape}
-use Rattle.machine.specs.declared.talk.Talked.TheVariants.{On, Stop}
+use Rattle.std.specs.Prelude.{Result, Ok, Err}
+use Rattle.numbers.specs.declared.refusal.Refusal.{Refusal}
+use Rattle.numbers.specs.declared.refusal.Refusal.TheVariants.{BudgetSpent}
+use Rattle.numbers.specs.Refusals.{number_of}
 use Rattle.machine.specs.declared.runs.Pause.{Pause}
 use Rattle.machine.specs.declared.runs.Pause.TheVariants.{Talks, Ends}
 use Rattle.machine.specs.declared.runs.Ended as C
@@ -28,7 +30,7 @@ use Rattle.machine.specs.Outcome.{run_leaves, run_outcome}
 use Rattle.machine.specs.Frames.{Sound, at}
 use Rattle.machine.specs.Steps.{Did, Listed}
 use Rattle.machine.specs.Talks.{taped, Onward, talk_of, Spoke}
-use Rattle.machine.specs.Runs.{going, paused_of, left_of, Rests, Paused, starting, Leaving, outcome_of}
+use Rattle.machine.specs.Runs.{going, number_at, paused_of, left_of, Rests, Paused, starting, Leaving, outcome_of}
 
 -- a step with budget left
 pub run_goes : (code : List Instr) (room b : ℕ) (m : Machine) (s : Step) → step code room m ≡ s → run code room (suc b) m ≡ going code room b m s
@@ -57,45 +59,45 @@ unfolding Quiet
 quiet_start code budget f cs room m = refl
 
 module _ (code : List Instr) (budget : ℕ) (f₀ : Frame) (cs₀ : List ℤ) (left : ℕ) (f : Frame) (cs : List ℤ) where
-  pub quiet_spent : Quiet code budget f₀ cs₀ left f cs → left ≡ 0 → (room : ℕ) → Paused code room budget f₀ cs₀ (Ends budget_spent f 0) cs
+  pub quiet_spent : Quiet code budget f₀ cs₀ left f cs → left ≡ 0 → (room : ℕ) → Paused code room budget f₀ cs₀ (Ends (Err BudgetSpent) f 0) cs
   unfolding Quiet
   quiet_spent q e room = record { tells = λ m. q room m ∙ run_spent code room (at f cs m) e; less = omega arith; rests = tt }
 
-  module _ (q : Quiet code budget f₀ cs₀ left f cs) (p : 0 < left) (le : left ≤ budget) {r : Does} {cs' : List ℤ} (did : (room : ℕ) → Did code room (step code room) f cs r cs') where
-    pub quiet_next : {g : Frame} → r ≡ D.Next g → Quiet code budget f₀ cs₀ (left - 1) g cs' × Sound g
+  module _ (q : Quiet code budget f₀ cs₀ left f cs) (p : 0 < left) (le : left ≤ budget) {r : Result Does Refusal} {cs' : List ℤ} (did : (room : ℕ) → Did code room (step code room) f cs r cs') where
+    pub quiet_next : {g : Frame} → r ≡ Ok (D.Next g) → Quiet code budget f₀ cs₀ (left - 1) g cs' × Sound g
     unfolding Quiet
     quiet_next {g} e =
-        let d : (room : ℕ) → Did code room (step code room) f cs (D.Next g) cs' = λ room. rw e at (did room) in
+        let d : (room : ℕ) → Did code room (step code room) f cs (Ok (D.Next g)) cs' = λ room. rw e at (did room) in
         (λ room m. q room m ∙ run_left code room left (at f cs m) (next (at g cs' m)) p ((d room).tells m), (d 0).leaves)
 
-    pub quiet_halt : {g : Frame} → r ≡ D.Halt g → (room : ℕ) → Paused code room budget f₀ cs₀ (Ends done g (left - 1)) cs'
+    pub quiet_halt : {g : Frame} → r ≡ Ok (D.Halt g) → (room : ℕ) → Paused code room budget f₀ cs₀ (Ends (Ok tt) g (left - 1)) cs'
     unfolding Quiet
     quiet_halt {g} e room =
         let d = rw e at (did room) in
         record { tells = λ m. q room m ∙ run_left code room left (at f cs m) (halt (at g cs' m)) p (d.tells m); less = omega arith; rests = tt }
 
-    pub quiet_stop : {n : ℕ} → r ≡ D.Stop n → (room : ℕ) → Paused code room budget f₀ cs₀ (Ends n f left) cs'
+    pub quiet_stop : {n : Refusal} → r ≡ Err n → (room : ℕ) → Paused code room budget f₀ cs₀ (Ends (Err n) f left) cs'
     unfolding Quiet
     quiet_stop {n} e room =
         let d = rw e at (did room) in
         let k : suc (left - 1) ≡ left = omega arith in
-        record { tells = λ m. rw d.leaves (q room m ∙ run_left code room left (at f cs m) (stop n) p (d.tells m) ∙ rw k); less = le; rests = tt }
+        record { tells = λ m. rw d.leaves (q room m ∙ run_left code room left (at f cs m) (stop (number_of n)) p (d.tells m) ∙ rw k); less = le; rests = tt }
 
-    pub quiet_write : {z : ℤ} → Sound f → r ≡ D.Write z → (room : ℕ) → Paused code room budget f₀ cs₀ (Talks f (left - 1) (Write z)) cs'
+    pub quiet_write : {z : ℤ} → Sound f → r ≡ Ok (D.Write z) → (room : ℕ) → Paused code room budget f₀ cs₀ (Talks f (left - 1) (Write z)) cs'
     unfolding Quiet
     quiet_write {z} s e room =
         let d = rw e at (did room) in
         let t = rw d.leaves.0 at d.tells in
         record { tells = λ m. rw d.leaves.0 (q room m ∙ run_left code room left (at f cs m) (talk_of code room (Write z) (at f cs m)) p (t m)); less = omega arith; rests = (record { pc = d.leaves.1; top = s }, tt) }
 
-    pub quiet_line : Sound f → r ≡ D.NewLine → (room : ℕ) → Paused code room budget f₀ cs₀ (Talks f (left - 1) NewLine) cs'
+    pub quiet_line : Sound f → r ≡ Ok D.NewLine → (room : ℕ) → Paused code room budget f₀ cs₀ (Talks f (left - 1) NewLine) cs'
     unfolding Quiet
     quiet_line s e room =
         let d = rw e at (did room) in
         let t = rw d.leaves.0 at d.tells in
         record { tells = λ m. rw d.leaves.0 (q room m ∙ run_left code room left (at f cs m) (talk_of code room NewLine (at f cs m)) p (t m)); less = omega arith; rests = (record { pc = d.leaves.1; top = s }, tt) }
 
-    pub quiet_read : {i : ℕ} → Sound f → r ≡ D.Read i → (room : ℕ) → Paused code room budget f₀ cs₀ (Talks f (left - 1) (Read i)) cs'
+    pub quiet_read : {i : ℕ} → Sound f → r ≡ Ok (D.Read i) → (room : ℕ) → Paused code room budget f₀ cs₀ (Talks f (left - 1) (Read i)) cs'
     unfolding Quiet
     quiet_read {i} s e room =
         let d = rw e at (did room) in
@@ -123,23 +125,23 @@ module _ (code : List Instr) (input : List ℕ) (budget : ℕ) (out₀ : List �
     pub rests : Rests p
     pub tells : e ≡ paused_of code (length out₀) p cs (taped t out input)
 
-  pub live_ends : {t : Tape} {n l : ℕ} {f : Frame} {cs : List ℤ} {out : List ℕ} → Live t (Ends n f l) cs out
+  pub live_ends : {t : Tape} {how : Result (Unit {0}) Refusal} {n l : ℕ} {f : Frame} {cs : List ℤ} {out : List ℕ} → n ≡ number_at how → Live t (Ends how f l) cs out
       → Leaving e budget out₀ (record { number = n; out_len = t.out; lines = t.lines; steps = budget - l }) out cs
-  live_ends {t} {n} {l} {f} {cs} {out} v =
-      rw v.tells (record { number = refl; out_length = sym (length-take-le t.out out v.within); lines = refl; steps = refl; out = onto_taken t.out out out₀ v.within v.beyond; cells = refl })
+  live_ends {t} {how} {n} {l} {f} {cs} {out} e v =
+      rw (v.tells, e) (record { number = refl; out_length = sym (length-take-le t.out out v.within); lines = refl; steps = refl; out = onto_taken t.out out out₀ v.within v.beyond; cells = refl })
 
   module _ {t : Tape} {w : Talk} {f : Frame} {l : ℕ} {cs : List ℤ} {out : List ℕ} (v : Live t (Talks f l w) cs out) where
     -- the room is that of the output as it is
     spoken : {s : Step} → talk_of code (length out) w (at f cs (taped t out input)) ≡ s → e ≡ going code (length out₀) l (at f cs (taped t out input)) s
     spoken {s} k = v.tells ∙ ap (going code (length out₀) l (at f cs (taped t out input))) (rw v.size at k)
 
-    pub live_stops : {n : ℕ} {cs' : List ℤ} {out' : List ℕ} → Spoke input w f t cs out (Stop n) cs' out'
+    pub live_stops : {n : ℕ} {x : Refusal} {cs' : List ℤ} {out' : List ℕ} → n ≡ number_of x → Spoke input w f t cs out (Err x) cs' out'
         → Leaving e budget out₀ (record { number = n; out_len = t.out; lines = t.lines; steps = budget - l - 1 }) out' cs'
-    live_stops {n} d =
+    live_stops {n} h d =
         let k : budget - l - 1 ≡ budget - suc l = omega arith in
-        rw (spoken (d.tells code), d.leaves.0, d.leaves.1) (record { number = refl; out_length = sym (length-take-le t.out out v.within); lines = refl; steps = k; out = onto_taken t.out out out₀ v.within v.beyond; cells = refl })
+        rw (spoken (d.tells code), d.leaves.0, d.leaves.1, h) (record { number = refl; out_length = sym (length-take-le t.out out v.within); lines = refl; steps = k; out = onto_taken t.out out out₀ v.within v.beyond; cells = refl })
 
-    pub live_on : {g : Frame} {u : Tape} {p : Pause} {cs' cs'' : List ℤ} {out' : List ℕ} → Spoke input w f t cs out (On g u) cs' out' → length cs'' ≡ max_cells → Paused code (length out₀) l g cs' p cs'' → Live u p cs'' out'
+    pub live_on : {g : Frame} {u : Tape} {p : Pause} {cs' cs'' : List ℤ} {out' : List ℕ} → Spoke input w f t cs out (Ok (g, u)) cs' out' → length cs'' ≡ max_cells → Paused code (length out₀) l g cs' p cs'' → Live u p cs'' out'
     live_on {g} {u} {out' = out'} d k z =
         let o : Onward g t u out out' = d.leaves in
         record {
@@ -162,36 +164,26 @@ pub leaving_from : {x y : Ended} {budget : ℕ} {lent : List ℕ} {r : C.Ended} 
 leaving_from e v = rw e v
 
 -- the code list that is lent
-pub listed : (ks : List ℤ) (ls : List ℕ) (os : List ℤ) {places : ℕ} → places ≡ length (places_in ks ls os) → places ≤ max_code → Listed ks ls os places
-listed ks ls os e h = record {
-  all = length_instrs ks ls os ∙ sym e;
+pub listed : (code : Code) {places : ℕ} → places ≡ length (instrs_in code) → places ≤ max_code → Listed code places
+listed code e h = record {
+  all = sym e;
   few = h;
-  kinds = omega (arith, kinds_enough ks ls os);
-  levels = omega (arith, levels_enough ks ls os);
-  operands = omega (arith, operands_enough ks ls os);
+  kinds = omega (arith, in_kinds code);
+  levels = omega (arith, in_levels code);
+  operands = omega (arith, in_operands code);
 }
 
 -- the first 4,096 cells, zeroed, and the others
 unfoldable pub zeros : List ℤ
 zeros = replicate max_cells (pos 0)
 
-zeros_length : length zeros ≡ max_cells
+pub zeros_length : length zeros ≡ max_cells
 unfolding zeros
 zeros_length = length-replicate max_cells (pos 0)
 
-module _ (cells : List ℤ) {cs : List ℤ} (e : cs ≡ onto cells (filling 0 max_cells (pos 0) cells)) where
-  pub zeroed : cs ≡ zeros ++ drop max_cells cells
-  unfolding zeros
-  zeroed = filling_whole max_cells (pos 0) cells e ∙ ap (λ (n : ℕ). zeros ++ drop n cells) zeros_length
-
-  pub zeroed_first : take max_cells cs ≡ zeros
-  zeroed_first = ap (take max_cells) zeroed ∙ take_at zeros (drop max_cells cells) max_cells zeros_length
-
-  pub zeroed_size : length (take max_cells cs) ≡ max_cells
-  zeroed_size = ap length zeroed_first ∙ zeros_length
-
-  pub zeroed_rest : drop max_cells cs ≡ drop max_cells cells
-  zeroed_rest = ap (drop max_cells) zeroed ∙ drop_at zeros (drop max_cells cells) max_cells zeros_length
+pub zeroed_by : (cells : List ℤ) {part part' : List ℤ} → max_cells ≤ length cells → part ≡ take max_cells cells → part' ≡ replicate (length part) (pos 0) → part' ≡ zeros
+unfolding zeros
+zeroed_by cells h p e = e ∙ ap (λ (n : ℕ). replicate n (pos 0)) (ap length p ∙ length-take-le max_cells cells h)
 
 -- the public outcome
 module _ (code : Code) (input : List ℕ) (budget : ℕ) (out : List ℕ) (cells : List ℤ) where

@@ -11,7 +11,7 @@ use lib.Dec.{leb}
 use lib.ListN.{length, take, drop, set}
 use lib.Seq.{length-take-le}
 use borrow.Author.Tests.{leb-true}
-use Rattle.numbers.specs.Panel.{bad_entry, output_full}
+use Rattle.numbers.specs.Panel.{output_full}
 use Rattle.numbers.specs.Limits.{max_cells}
 use Rattle.numbers.specs.Screen.{written, newline, prompt, fits_in}
 use Rattle.numbers.specs.Line.{entry}
@@ -21,7 +21,8 @@ use Rattle.pcode.specs.Code.{Instr}
 use Rattle.machine.specs.declared.frames.Frame.{Frame}
 use Rattle.machine.specs.declared.talk.Talk.TheVariants.{Write, NewLine, Read}
 use Rattle.machine.specs.declared.talk.Tape.{Tape}
-use Rattle.machine.specs.declared.talk.Talked.TheVariants.{On, Stop}
+use Rattle.std.specs.Prelude.{Ok, Err}
+use Rattle.numbers.specs.declared.refusal.Refusal.TheVariants.{BadEntry, OutputFull}
 use Rattle.machine.specs.Machine.{Step, next, stop, put, reading, took_line}
 use Rattle.machine.specs.Frames.{Sound, at, onward}
 use Rattle.machine.specs.Talks.{taped, Within, wrote_to, took_to, Onward, Spoke}
@@ -62,21 +63,21 @@ module _ (input : List ℕ) (f : Frame) (t : Tape) (cs : List ℤ) (out : List �
   unfolding put
   put_full bs k code top = rw (fits_as bs k.full, put)
 
-  pub write_on : (z : ℤ) {n : ℕ} {out' : List ℕ} → Wrote (written z) t.out out out' n → Spoke input (Write z) f t cs out (On (onward f f.top) (wrote_to t n)) cs out'
+  pub write_on : (z : ℤ) {n : ℕ} {out' : List ℕ} → Wrote (written z) t.out out out' n → Spoke input (Write z) f t cs out (Ok (onward f f.top, wrote_to t n)) cs out'
   write_on z {n} w = record { tells = λ code. put_on (written z) w code f.top; leaves = onward_on (written z) w f.top (wrote_to t n) sound refl (omega arith) }
 
-  pub write_full : (z : ℤ) {out' : List ℕ} → Kept (written z) t.out out out' → Spoke input (Write z) f t cs out (Stop output_full) cs out'
+  pub write_full : (z : ℤ) {out' : List ℕ} → Kept (written z) t.out out out' → Spoke input (Write z) f t cs out (Err OutputFull) cs out'
   write_full z k = record { tells = λ code. put_full (written z) k code f.top; leaves = (refl, k.same) }
 
-  pub line_on : {n : ℕ} {out' : List ℕ} → Wrote newline t.out out out' n → Spoke input NewLine f t cs out (On (onward f f.top) (wrote_to t n)) cs out'
+  pub line_on : {n : ℕ} {out' : List ℕ} → Wrote newline t.out out out' n → Spoke input NewLine f t cs out (Ok (onward f f.top, wrote_to t n)) cs out'
   line_on {n} w = record { tells = λ code. put_on newline w code f.top; leaves = onward_on newline w f.top (wrote_to t n) sound refl (omega arith) }
 
-  pub line_full : {out' : List ℕ} → Kept newline t.out out out' → Spoke input NewLine f t cs out (Stop output_full) cs out'
+  pub line_full : {out' : List ℕ} → Kept newline t.out out out' → Spoke input NewLine f t cs out (Err OutputFull) cs out'
   line_full k = record { tells = λ code. put_full newline k code f.top; leaves = (refl, k.same) }
 
   -- a line read into the cell i
   module _ (i : ℕ) where
-    pub read_bad : entry (drop t.at input) ≡ none → Spoke input (Read i) f t cs out (Stop bad_entry) cs out
+    pub read_bad : entry (drop t.at input) ≡ none → Spoke input (Read i) f t cs out (Err BadEntry) cs out
     unfolding reading
     read_bad e = record { tells = λ code. rw (e, reading); leaves = (refl, refl) }
 
@@ -85,10 +86,10 @@ module _ (input : List ℕ) (f : Frame) (t : Tape) (cs : List ℤ) (out : List �
     unfolding reading
     some_line code e = rw (e, reading)
 
-    pub read_full : {z : ℤ} {out' : List ℕ} → entry (drop t.at input) ≡ some z → Kept prompt t.out out out' → Spoke input (Read i) f t cs out (Stop output_full) cs out'
+    pub read_full : {z : ℤ} {out' : List ℕ} → entry (drop t.at input) ≡ some z → Kept prompt t.out out out' → Spoke input (Read i) f t cs out (Err OutputFull) cs out'
     read_full {z} e k = record { tells = λ code. some_line code e ∙ pick_false (fits_in (length out) (take t.out out) prompt) (next (took_line z i (suc f.top) (at f cs (taped t out input)))) (stop output_full) (fits_as prompt k.full); leaves = (refl, k.same) }
 
-    pub read_on : {z : ℤ} {a n : ℕ} {out' : List ℕ} → f.top < max_cells → Took input t.at z a → Wrote prompt t.out out out' n → Spoke input (Read i) f t cs out (On (onward f (f.top + 1)) (took_to t a n)) (set cs i z) out'
+    pub read_on : {z : ℤ} {a n : ℕ} {out' : List ℕ} → f.top < max_cells → Took input t.at z a → Wrote prompt t.out out out' n → Spoke input (Read i) f t cs out (Ok (onward f (f.top + 1), took_to t a n)) (set cs i z) out'
     read_on {z} {a} {n} p k w = record {
       tells = λ code. some_line code k.value ∙ pick_true (fits_in (length out) (take t.out out) prompt) (next (took_line z i (suc f.top) (at f cs (taped t out input)))) (stop output_full) (fits_as prompt w.fits) ∙ rw (add-one f.top, longer prompt w, k.rest);
       leaves = onward_on prompt w (f.top + 1) (took_to t a n) (omega arith) refl (omega arith);

@@ -1,10 +1,10 @@
 -- What a frame of the code means: the machine that it is part of, and the cells that it names.
-use Rattle.std.specs.Prelude.{List, ℕ, suc, ◌≤◌, ◌<◌, ℤ, pos, negsuc}
+use Rattle.std.specs.Prelude.{◌≡◌, List, ℕ, suc, ◌-◌, ◌≤◌, ◌<◌, ℤ, pos, negsuc, Result, Ok, Err}
 use Rattle.std.proofs.Math.Option.{Option, none, some}
 use Rattle.numbers.specs.Limits.{max_code, max_cells}
+use Rattle.numbers.specs.declared.refusal.Refusal.{Refusal}
+use Rattle.numbers.specs.declared.refusal.Refusal.TheVariants.{CellOutside}
 use Rattle.machine.specs.declared.frames.Frame.{Frame}
-use Rattle.machine.specs.declared.frames.Base.{Base}
-use Rattle.machine.specs.declared.frames.Base.TheVariants.{At, Outside}
 use Rattle.machine.specs.Machine.{Machine, from, up, from_base}
 
 -- the first cell at which there is no room for three links
@@ -36,11 +36,6 @@ jumped f p = record { pc = p; base = f.base; top = f.top }
 abbrev pub framed : Frame → ℤ → ℕ → Frame
 framed f b t = record { pc = f.pc; base = b; top = t }
 
--- a base, if there is one
-abbrev pub base_of : Base → Option ℤ
-base_of (At b) = some b
-base_of Outside = none
-
 -- the cell of an operand above a base
 unfoldable pub from_by : ℤ → ℤ → Option ℕ
 from_by b (pos a) = from b a
@@ -50,3 +45,23 @@ from_by b (negsuc a) = none
 unfoldable pub there_by : List ℤ → ℕ → ℤ → ℤ → Option ℕ
 there_by cs l (pos a) b = from_base (up cs l b) a
 there_by cs l (negsuc a) b = none
+
+-- the cell of the definition, or there is none
+abbrev pub Names : Result ℕ Refusal → Option ℕ → Type 0
+Names (Ok i) o = (o ≡ some i) × (i < max_cells)
+Names (Err e) o = (o ≡ none) × (e ≡ CellOutside)
+
+-- the base of the definition, or there is none
+abbrev pub Reaches : Result ℤ Refusal → Option ℤ → Type 0
+Reaches (Ok b) o = o ≡ some b
+Reaches (Err e) o = (o ≡ none) × (e ≡ CellOutside)
+
+-- the cell below a top
+abbrev pub Below : ℕ → Result ℕ Refusal → Type 0
+Below t (Ok i) = (0 < t) × (i ≡ t - 1)
+Below t (Err e) = (t ≡ 0) × (e ≡ CellOutside)
+
+-- the cell that a push writes
+abbrev pub Free : ℕ → Result ℕ Refusal → Type 0
+Free t (Ok i) = (t < max_cells) × (i ≡ t)
+Free t (Err e) = (max_cells ≤ t) × (e ≡ CellOutside)

@@ -1,5 +1,7 @@
 -- What a run of the code means: the definition's run, and the public outcome.
-use Rattle.std.specs.Prelude.{◌≡◌, List, [], ℕ, suc, ◌-◌, ◌≤◌, ℤ, pos, length}
+use Rattle.std.specs.Prelude.{◌≡◌, List, [], ℕ, suc, ◌-◌, ◌≤◌, ℤ, pos, length, Result, Ok, Err}
+use Rattle.numbers.specs.declared.refusal.Refusal.{Refusal}
+use Rattle.numbers.specs.Refusals.{number_of}
 use Rattle.numbers.specs.Panel.{done}
 use Rattle.numbers.specs.Lent.{onto}
 use Rattle.pcode.specs.Code.{Instr}
@@ -18,20 +20,25 @@ going code room b m (next m') = run code room b m'
 going code room b m (halt m') = ended done b m'
 going code room b m (stop n) = ended n (suc b) m
 
+-- the number of an end
+abbrev pub number_at : Result (Unit {0}) Refusal → ℕ
+number_at (Ok u) = done
+number_at (Err e) = number_of e
+
 -- the end of a run that paused so, with the cells that it left
 abbrev pub paused_of : List Instr → ℕ → Pause → List ℤ → Machine → Ended
 paused_of code room (Talks f b w) cs m = going code room b (at f cs m) (talk_of code room w (at f cs m))
-paused_of code room (Ends n f b) cs m = ended n b (at f cs m)
+paused_of code room (Ends how f b) cs m = ended (number_at how) b (at f cs m)
 
 -- the budget left before the step that talks, or at the end
 abbrev pub left_of : Pause → ℕ
 left_of (Talks f b w) = suc b
-left_of (Ends n f b) = b
+left_of (Ends how f b) = b
 
 -- where it paused
 abbrev pub Rests : Pause → Type 0
 Rests (Talks f b w) = Steady f × Ready w f
-Rests (Ends n f b) = Unit
+Rests (Ends how f b) = Unit
 
 -- a pause on the way of a run
 pub record Paused (code : List Instr) (room budget : ℕ) (f : Frame) (cs : List ℤ) (p : Pause) (cs' : List ℤ) : Type 0 where

@@ -1,5 +1,7 @@
 -- What an exchange of the code means: the rest of the definition's step, and what it leaves of cells and output.
-use Rattle.std.specs.Prelude.{◌≡◌, List, [], ℕ, suc, ◌≤◌, ◌<◌, ℤ, pos, length, take, drop}
+use Rattle.std.specs.Prelude.{◌≡◌, List, [], ℕ, suc, ◌≤◌, ◌<◌, ℤ, pos, length, take, drop, Result, Ok, Err}
+use Rattle.numbers.specs.declared.refusal.Refusal.{Refusal}
+use Rattle.numbers.specs.Refusals.{number_of}
 use Rattle.numbers.specs.Limits.{max_cells}
 use Rattle.numbers.specs.Screen.{written, newline}
 use Rattle.numbers.specs.Stack.{after_write}
@@ -8,8 +10,6 @@ use Rattle.machine.specs.declared.frames.Frame.{Frame}
 use Rattle.machine.specs.declared.talk.Talk.{Talk}
 use Rattle.machine.specs.declared.talk.Talk.TheVariants.{Write, NewLine, Read}
 use Rattle.machine.specs.declared.talk.Tape.{Tape}
-use Rattle.machine.specs.declared.talk.Talked.{Talked}
-use Rattle.machine.specs.declared.talk.Talked.TheVariants.{On, Stop}
 use Rattle.machine.specs.Machine.{Machine, Step, next, stop, put, reading}
 use Rattle.machine.specs.Frames.{Sound, at}
 
@@ -42,9 +42,9 @@ talk_of code room NewLine m = put code room newline m.top m
 talk_of code room (Read i) m = reading code room m i (suc m.top)
 
 -- the definition's step of an answer, with the cells and the output that it left
-abbrev pub talked_of : List ℕ → Talked → List ℤ → List ℕ → Step
-talked_of input (On g u) cs out = next (at g cs (taped u out input))
-talked_of input (Stop n) cs out = stop n
+abbrev pub talked_of : List ℕ → Result (Frame × Tape) Refusal → List ℤ → List ℕ → Step
+talked_of input (Ok (g, u)) cs out = next (at g cs (taped u out input))
+talked_of input (Err e) cs out = stop (number_of e)
 
 -- "Output past the written bytes is untouched"; one line at most is taken
 pub record Onward (g : Frame) (t u : Tape) (out out' : List ℕ) : Type 0 where
@@ -56,11 +56,11 @@ pub record Onward (g : Frame) (t u : Tape) (out out' : List ℕ) : Type 0 where
   pub lines : u.lines ≤ suc t.lines
 
 -- "A refused step changes no cell, no output byte, no input position"
-abbrev pub Left : Talked → Tape → List ℤ → List ℕ → List ℤ → List ℕ → Type 0
-Left (On g u) t cs out cs' out' = Onward g t u out out'
-Left (Stop n) t cs out cs' out' = (cs' ≡ cs) × (out' ≡ out)
+abbrev pub Left : Result (Frame × Tape) Refusal → Tape → List ℤ → List ℕ → List ℤ → List ℕ → Type 0
+Left (Ok (g, u)) t cs out cs' out' = Onward g t u out out'
+Left (Err e) t cs out cs' out' = (cs' ≡ cs) × (out' ≡ out)
 
 -- an answer to an exchange is what the definition's step does
-pub record Spoke (input : List ℕ) (w : Talk) (f : Frame) (t : Tape) (cs : List ℤ) (out : List ℕ) (r : Talked) (cs' : List ℤ) (out' : List ℕ) : Type 0 where
+pub record Spoke (input : List ℕ) (w : Talk) (f : Frame) (t : Tape) (cs : List ℤ) (out : List ℕ) (r : Result (Frame × Tape) Refusal) (cs' : List ℤ) (out' : List ℕ) : Type 0 where
   pub tells : (code : List Instr) → talk_of code (length out) w (at f cs (taped t out input)) ≡ talked_of input r cs' out'
   pub leaves : Left r t cs out cs' out'

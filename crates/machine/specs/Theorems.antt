@@ -1,13 +1,12 @@
 -- What the contracts settle, in a form to cite: a refused step changes nothing and is not counted, and run's contract leaves
 -- one outcome.
-use Rattle.std.specs.Prelude.{◌≡◌, refl, List, ℕ, suc, ℤ}
+use Rattle.std.specs.Prelude.{◌≡◌, refl, List, ℕ, suc, ℤ, Err}
+use Rattle.numbers.specs.declared.refusal.Refusal.{Refusal}
 use Rattle.std.proofs.Common.{sym, ap, ◌∙◌}
 use Rattle.pcode.specs.Code.{Instr, Code}
 use Rattle.machine.specs.declared.frames.Frame.{Frame}
-use Rattle.machine.specs.declared.steps.Does.TheVariants as D
 use Rattle.machine.specs.declared.talk.Talk.{Talk}
 use Rattle.machine.specs.declared.talk.Tape.{Tape}
-use Rattle.machine.specs.declared.talk.Talked.TheVariants as T
 use Rattle.machine.specs.declared.runs.Ended as C
 use Rattle.machine.specs.Machine.{Machine, Step, next, stop, step, ended, run}
 use Rattle.machine.specs.Outcome.{RunOutcome, run_outcome}
@@ -40,11 +39,11 @@ module _ (code : List Instr) (room : ℕ) where
   refused_step {b' = b'} {n = n} {m' = m'} c e = comes_same c ∙ stops b' n m' e
 
 -- the code's step that is refused leaves the cells as they were
-pub refused_cells : (code : List Instr) (room : ℕ) (does : Machine → Step) (f : Frame) (cs cs' : List ℤ) {n : ℕ} → Did code room does f cs (D.Stop n) cs' → cs' ≡ cs
+pub refused_cells : (code : List Instr) (room : ℕ) (does : Machine → Step) (f : Frame) (cs cs' : List ℤ) {e : Refusal} → Did code room does f cs (Err e) cs' → cs' ≡ cs
 refused_cells code room does f cs cs' d = d.leaves
 
 -- the code's exchange that is refused leaves cells and output as they were, and its answer has no new tape
-pub refused_exchange : (input : List ℕ) (w : Talk) (f : Frame) (t : Tape) (cs cs' : List ℤ) (out out' : List ℕ) {n : ℕ} → Spoke input w f t cs out (T.Stop n) cs' out' → (cs' ≡ cs) × (out' ≡ out)
+pub refused_exchange : (input : List ℕ) (w : Talk) (f : Frame) (t : Tape) (cs cs' : List ℤ) (out out' : List ℕ) {e : Refusal} → Spoke input w f t cs out (Err e) cs' out' → (cs' ≡ cs) × (out' ≡ out)
 refused_exchange input w f t cs cs' out out' d = d.leaves
 
 -- two outcomes that meet run's contract coincide: what is returned, the output and the cells

@@ -1,14 +1,14 @@
 // The frame, which is where the machine stands, and the cells that a base, a level and an operand name.
-ghost use Rattle.std.specs.Prelude.{◌≡◌, ◌<◌, pos, length};
-ghost use Rattle.numbers.specs.Limits.{max_cells, max_code};
-ghost use Rattle.machine.specs.Machine.{cell_at, up};
-ghost use Rattle.machine.specs.Frames.{from_by, there_by, base_of, onward, jumped, framed};
+ghost use Rattle.std.specs.Prelude.{◌≡◌, ◌<◌, pos};
+ghost use Rattle.numbers.specs.Limits.{max_code};
+ghost use Rattle.machine.specs.Machine.{up};
+ghost use Rattle.machine.specs.Frames.{from_by, there_by, onward, jumped, framed, Below, Free, Names, Reaches};
 
-// Cells of the machine; also the greatest top, and what stands for a cell that is not there.
-pub const CELLS: usize = 4096;
+use numbers::limits::CELLS;
+use numbers::refusal::Refusal;
 
-// A base and an operand that count a cell are below this.
-pub const END: i64 = 4096;
+// The cells that the machine works on.
+pub type Cells = [i64; CELLS];
 
 // Place of the next instruction, base, top.
 #[derive(Clone, Copy)]
@@ -16,13 +16,6 @@ pub struct Frame {
     pub pc: usize,
     pub base: i64,
     pub top: usize,
-}
-
-// The base so many levels up, or a link on the way is outside the cells.
-#[derive(Clone, Copy)]
-pub enum Base {
-    At(i64),
-    Outside,
 }
 
 impl Frame {
@@ -52,52 +45,56 @@ impl Frame {
         self.top = top;
         self
     }
+
+    // The cell below the top.
+    pub fn last(self) -> Result<usize, Refusal>
+        ensures { Below self.top result }
+    {
+        if self.top == 0 {
+            return Err(Refusal::CellOutside);
+        }
+        Ok(self.top - 1)
+    }
+
+    // The cell that a push writes.
+    pub fn free(self) -> Result<usize, Refusal>
+        ensures { Free self.top result }
+    {
+        if CELLS <= self.top {
+            return Err(Refusal::CellOutside);
+        }
+        Ok(self.top)
+    }
 }
 
-// The cell a places above a base; 4,096 or more where there is none.
-pub fn from(base: i64, a: i64) -> usize
-    ensures { cell_at (pos result) ≡ from_by base a }
+// The cell a places above a base.
+pub fn from(base: i64, a: i64) -> Result<usize, Refusal>
+    ensures { Names result (from_by base a) }
 {
-    if base < 0 {
-        return CELLS;
+    if base < 0 || a < 0 {
+        return Err(Refusal::CellOutside);
     }
-    if END <= base {
-        return CELLS;
+    let i = base as usize + a as usize;
+    if CELLS <= i {
+        return Err(Refusal::CellOutside);
     }
-    if a < 0 {
-        return CELLS;
-    }
-    if END <= a {
-        return CELLS;
-    }
-    (base + a) as usize
+    Ok(i)
 }
 
 // The base so many levels up, by the static links.
-pub fn up(cells: &[i64], level: u16, base: i64) -> Base
-    requires { length cells.now ≡ max_cells }
-    ensures { base_of result ≡ up cells.now level base }
+pub fn up(cells: &Cells, level: u16, base: i64) -> Result<i64, Refusal>
+    ensures { Reaches result (up cells.now level base) }
 {
-    let mut b = base;
-    let mut l = level;
-    while 0 < l {
-        let i = from(b, 1);
-        if CELLS <= i {
-            return Base::Outside;
-        }
-        b = cells[i];
-        l = l - 1;
+    let mut reached = base;
+    for _ in 0..level {
+        reached = cells[from(reached, 1)?];
     }
-    Base::At(b)
+    Ok(reached)
 }
 
-// The cell of a level and an operand; 4,096 or more where there is none.
-pub fn there(cells: &[i64], level: u16, a: i64, base: i64) -> usize
-    requires { length cells.now ≡ max_cells }
-    ensures { cell_at (pos result) ≡ there_by cells.now level a base }
+// The cell of a level and an operand.
+pub fn there(cells: &Cells, level: u16, a: i64, base: i64) -> Result<usize, Refusal>
+    ensures { Names result (there_by cells.now level a base) }
 {
-    let Base::At(b) = up(cells, level, base) else {
-        return CELLS;
-    };
-    from(b, a)
+    from(up(cells, level, base)?, a)
 }

@@ -1,72 +1,74 @@
 // Instructions that change the place: JMP, JPC, CAL and the return. "A jump, call or return to place 0 halts".
-ghost use Rattle.std.specs.Prelude.{◌≡◌, List, ℕ, ◌<◌, pos, length, set};
-ghost use Rattle.numbers.specs.Limits.{max_cells};
+ghost use Rattle.std.specs.Prelude.{◌≡◌, List, ℕ, ◌<◌, ◌≤◌, pos, length, set};
 ghost use Rattle.pcode.specs.Code.{Instr};
 ghost use Rattle.machine.specs.Machine.{up, testing, calling, returning};
-ghost use Rattle.machine.specs.Frames.{links_end, Steady, base_of};
-ghost use Rattle.machine.specs.Steps.{Did, inside, went, linked};
+ghost use Rattle.machine.specs.Frames.{links_end, Steady, Reaches};
+ghost use Rattle.machine.specs.Steps.{Did, Inside, arrived, went, linked};
 
-use crate::frames::{Base, CELLS, Frame, from, up};
-use crate::panel::{CELL_OUTSIDE, PLACE_OUTSIDE};
+use crate::frames::{Cells, Frame, from, up};
 use crate::steps::Does;
+use numbers::limits::{CELLS, LINKS};
+use numbers::refusal::Refusal;
 
-// The three links of a frame stand below cell 4,096 where the first stands below this one.
-const LINKS_END: usize = 4094;
-
-// Whether a target is within the list.
-fn inside(places: usize, a: i64) -> bool
-    ensures { result ≡ inside places a }
+// The place of a target within the list.
+fn target(places: usize, a: i64) -> Result<usize, Refusal>
+    ensures { Inside places a result }
 {
     if a < 0 {
-        return false;
+        return Err(Refusal::PlaceOutside);
     }
     let to = a as usize;
-    to < places
+    if places <= to {
+        return Err(Refusal::PlaceOutside);
+    }
+    Ok(to)
+}
+
+// To a place of the list.
+fn arrive(to: usize, f: Frame) -> Does
+    ensures { result ≡ arrived to f }
+{
+    if to == 0 {
+        return Does::Halt(f);
+    }
+    Does::Next(f.jumped(to))
 }
 
 // To a target within the list.
-pub fn goto(places: usize, a: i64, f: Frame) -> Does
+pub fn goto(places: usize, a: i64, f: Frame) -> Result<Does, Refusal>
     ensures { result ≡ went places a f }
 {
-    if !inside(places, a) {
-        return Does::Stop(PLACE_OUTSIDE);
-    }
-    if a == 0 {
-        return Does::Halt(f);
-    }
-    Does::Next(f.jumped(a as usize))
+    let to = target(places, a)?;
+    Ok(arrive(to, f))
 }
 
 // JPC: on where the value on top is not 0. The value stays there.
-pub fn jpc(cells: &[i64], places: usize, a: i64, f: Frame) -> Does
-    requires { (length cells.now ≡ max_cells) × Steady f }
+pub fn jpc(cells: &Cells, places: usize, a: i64, f: Frame) -> Result<Does, Refusal>
+    requires { Steady f }
     ensures { (code : List Instr) (room : ℕ) → length code ≡ places → Did code room (testing code room a) f cells.now result cells.now }
 {
-    let top = f.top;
-    if top == 0 {
-        return Does::Stop(CELL_OUTSIDE);
-    }
-    if cells[top - 1] == 0 {
+    let last = f.last()?;
+    if cells[last] == 0 {
         return goto(places, a, f);
     }
-    Does::Next(f.onward(top))
+    Ok(Does::Next(f.onward(f.top)))
 }
 
 // The static base of a call: found as if the first link were written, and the cells are as before.
-fn outer_base(cells: &mut [i64], level: u16, top: usize, base: i64) -> Base
-    requires { (length cells.old ≡ max_cells) × (top < links_end) }
-    ensures { (base_of result ≡ up (set cells.old top base) level base) × (cells.new ≡ cells.old) }
+fn outer_base(cells: &mut Cells, level: u16, top: usize, base: i64) -> Result<i64, Refusal>
+    requires { top < links_end }
+    ensures { Reaches result (up (set cells.old top base) level base) × (cells.new ≡ cells.old) }
 {
     let old = cells[top];
     cells[top] = base;
-    let b = up(cells, level, base);
+    let outer = up(cells, level, base);
     cells[top] = old;
-    b
+    outer
 }
 
 // The links of a call: old base, static base, return place.
-fn link(cells: &mut [i64], top: usize, base: i64, outer: i64, back: usize)
-    requires { (length cells.old ≡ max_cells) × (top < links_end) × (back < 4097) }
+fn link(cells: &mut Cells, top: usize, base: i64, outer: i64, back: usize)
+    requires { (top < links_end) × (back < 4097) }
     ensures { cells.new ≡ linked cells.old top base outer (pos back) }
 {
     cells[top] = base;
@@ -75,35 +77,26 @@ fn link(cells: &mut [i64], top: usize, base: i64, outer: i64, back: usize)
 }
 
 // CAL: the target is judged before a link is written.
-pub fn cal(cells: &mut [i64], places: usize, level: u16, target: i64, f: Frame) -> Does
-    requires { (length cells.old ≡ max_cells) × Steady f }
-    ensures { (code : List Instr) (room : ℕ) → length code ≡ places → Did code room (calling code room level target) f cells.old result cells.new }
+pub fn cal(cells: &mut Cells, places: usize, level: u16, a: i64, f: Frame) -> Result<Does, Refusal>
+    requires { Steady f }
+    ensures { (code : List Instr) (room : ℕ) → length code ≡ places → Did code room (calling code room level a) f cells.old result cells.new }
 {
     let top = f.top;
-    let base = f.base;
-    if LINKS_END <= top {
-        return Does::Stop(CELL_OUTSIDE);
+    if CELLS < top + LINKS {
+        return Err(Refusal::CellOutside);
     }
-    let Base::At(outer) = outer_base(cells, level, top, base) else {
-        return Does::Stop(CELL_OUTSIDE);
-    };
-    if !inside(places, target) {
-        return Does::Stop(PLACE_OUTSIDE);
-    }
-    link(cells, top, base, outer, f.pc + 1);
-    goto(places, target, f.framed(top as i64, top))
+    let outer = outer_base(cells, level, top, f.base)?;
+    let to = target(places, a)?;
+    link(cells, top, f.base, outer, f.pc + 1);
+    Ok(arrive(to, f.framed(top as i64, top)))
 }
 
 // OPR 0: "a return leaves the arguments".
-pub fn back(cells: &[i64], places: usize, f: Frame) -> Does
-    requires { (length cells.now ≡ max_cells) × Steady f }
+pub fn back(cells: &Cells, places: usize, f: Frame) -> Result<Does, Refusal>
+    requires { Steady f }
     ensures { (code : List Instr) (room : ℕ) → length code ≡ places → Did code room (returning code room) f cells.now result cells.now }
 {
-    let base = f.base;
-    let r = from(base, 2);
-    if CELLS <= r {
-        return Does::Stop(CELL_OUTSIDE);
-    }
-    let old = cells[r - 2];
-    goto(places, cells[r], f.framed(old, r - 2))
+    let place = from(f.base, 2)?;
+    let top = from(f.base, 0)?;
+    goto(places, cells[place], f.framed(cells[top], top))
 }

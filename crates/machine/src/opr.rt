@@ -1,143 +1,143 @@
 // OPR and its seventeen operators.
-ghost use Rattle.std.specs.Prelude.{◌≡◌, List, ℕ, ◌≤◌, ◌<◌, ℤ, pos, length};
-ghost use Rattle.numbers.specs.Limits.{max_cells};
+ghost use Rattle.std.specs.Prelude.{◌≡◌, List, ℕ, ℤ, ◌-◌, length};
+ghost use Rattle.numbers.specs.Arithmetic.{Val, val, flag, oddness, compared, equal, unequal, less, at_least, greater, at_most};
 ghost use Rattle.numbers.specs.Answers.{val_of};
-ghost use Rattle.pcode.specs.Operators.{Oper, read, oper_no};
+ghost use Rattle.pcode.specs.Operators.{read};
 ghost use Rattle.pcode.specs.Code.{Instr, OPR};
-ghost use Rattle.machine.specs.Machine.{unary, binary, writing, operate, perform};
+ghost use Rattle.machine.specs.Machine.{held, unary, binary, writing, operate, perform};
 ghost use Rattle.machine.specs.Frames.{Steady};
-ghost use Rattle.machine.specs.Steps.{Did, replacing, flagged, one_of, two_of};
+ghost use Rattle.machine.specs.Steps.{Did};
 
-use crate::frames::{CELLS, Frame};
+use crate::frames::{Cells, Frame};
 use crate::jumps::back;
-use crate::panel::{CELL_OUTSIDE, NOT_AN_OPERATION};
 use crate::steps::Does;
 use numbers::arithmetic;
-use numbers::arithmetic::Answer;
-use pcode::{
-    ADD, AT_LEAST, AT_MOST, DIV, EQUAL, GREATER, IDLE, LESS, MUL, NEGATE, NEW_LINE, ODD, READ,
-    RETURN, SUB, UNEQUAL, WRITE,
-};
+use numbers::arithmetic::{Compare, flag_of};
+use numbers::refusal::Refusal;
+use pcode::Operator;
 
-fn one(o: i64, x: i64) -> Answer
-    ensures { (p : Oper) → o ≡ pos (oper_no p) → val_of result ≡ one_of p x }
+// The value of a comparison.
+fn flagged(holds: bool) -> Result<i64, Refusal>
+    ensures { val_of result ≡ val (flag holds) }
 {
-    match o {
-        NEGATE => arithmetic::negate(x),
-        ODD => Answer::Value(arithmetic::remainder(x)),
-        _ => Answer::Refused(NOT_AN_OPERATION),
-    }
+    Ok(flag_of(holds))
 }
 
-fn flag(holds: bool) -> Answer
-    ensures { val_of result ≡ flagged holds }
+// An operator on the value on top, whose value takes its place.
+fn unary<O: FnOnce(i64) -> Result<i64, Refusal>>(
+    cells: &mut Cells,
+    f: Frame,
+    operate: O,
+) -> Result<Does, Refusal>
+    requires { Steady f × O.IsAlwaysCallable operate }
+    ensures { (code : List Instr) (room : ℕ) (g : ℤ → Val) → ((r : _) → O.post operate (held cells.old (f.top - 1)) r → val_of r ≡ g (held cells.old (f.top - 1))) → Did code room (unary g) f cells.old result cells.new }
 {
-    Answer::Value(arithmetic::flag_of(holds))
+    let i = f.last()?;
+    cells[i] = operate(cells[i])?;
+    Ok(Does::Next(f.onward(f.top)))
 }
 
-fn two(o: i64, x: i64, y: i64) -> Answer
-    ensures { (p : Oper) → o ≡ pos (oper_no p) → val_of result ≡ two_of p x y }
+// An operator on the two values on top, whose value takes the place of both.
+fn binary<O: FnOnce(i64, i64) -> Result<i64, Refusal>>(
+    cells: &mut Cells,
+    f: Frame,
+    operate: O,
+) -> Result<Does, Refusal>
+    requires { Steady f × O.IsAlwaysCallable operate }
+    ensures { (code : List Instr) (room : ℕ) (g : ℤ → ℤ → Val) → ((r : _) → O.post operate (held cells.old (f.top - 2)) (held cells.old (f.top - 1)) r → val_of r ≡ g (held cells.old (f.top - 2)) (held cells.old (f.top - 1))) → Did code room (binary g) f cells.old result cells.new }
 {
-    match o {
-        ADD => arithmetic::add(x, y),
-        SUB => arithmetic::sub(x, y),
-        MUL => arithmetic::mul(x, y),
-        DIV => arithmetic::div(x, y),
-        EQUAL => flag(arithmetic::is_equal(x, y)),
-        UNEQUAL => flag(arithmetic::is_unequal(x, y)),
-        LESS => flag(arithmetic::is_less(x, y)),
-        AT_LEAST => flag(arithmetic::is_at_least(x, y)),
-        GREATER => flag(arithmetic::is_greater(x, y)),
-        AT_MOST => flag(arithmetic::is_at_most(x, y)),
-        _ => Answer::Refused(NOT_AN_OPERATION),
+    if f.top < 2 {
+        return Err(Refusal::CellOutside);
     }
-}
-
-// An operator's value goes to the cell i, and the top is t; its fault stops the step.
-fn replace(cells: &mut [i64], i: usize, t: usize, v: Answer, f: Frame) -> Does
-    requires { (length cells.old ≡ max_cells) × Steady f × (i < max_cells) × (t ≤ max_cells) }
-    ensures { (code : List Instr) (room : ℕ) → Did code room (replacing i t (val_of v)) f cells.old result cells.new }
-{
-    match v {
-        Answer::Value(z) => {
-            cells[i] = z;
-            Does::Next(f.onward(t))
-        }
-        Answer::Refused(n) => Does::Stop(n),
-    }
-}
-
-fn unary(cells: &mut [i64], o: i64, f: Frame) -> Does
-    requires { (length cells.old ≡ max_cells) × Steady f }
-    ensures { (code : List Instr) (room : ℕ) (p : Oper) → o ≡ pos (oper_no p) → Did code room (unary (one_of p)) f cells.old result cells.new }
-{
-    let top = f.top;
-    if top == 0 {
-        return Does::Stop(CELL_OUTSIDE);
-    }
-    let v = one(o, cells[top - 1]);
-    replace(cells, top - 1, top, v, f)
-}
-
-fn binary(cells: &mut [i64], o: i64, f: Frame) -> Does
-    requires { (length cells.old ≡ max_cells) × Steady f }
-    ensures { (code : List Instr) (room : ℕ) (p : Oper) → o ≡ pos (oper_no p) → Did code room (binary (two_of p)) f cells.old result cells.new }
-{
-    let top = f.top;
-    if top < 2 {
-        return Does::Stop(CELL_OUTSIDE);
-    }
-    let v = two(o, cells[top - 2], cells[top - 1]);
-    replace(cells, top - 2, top - 1, v, f)
+    let i = f.top - 2;
+    cells[i] = operate(cells[i], cells[i + 1])?;
+    Ok(Does::Next(f.onward(i + 1)))
 }
 
 // The value on top is to be written: also WRT.
-pub fn write(cells: &[i64], f: Frame) -> Does
-    requires { (length cells.now ≡ max_cells) × Steady f }
+pub fn write(cells: &Cells, f: Frame) -> Result<Does, Refusal>
+    requires { Steady f }
     ensures { (code : List Instr) (room : ℕ) → Did code room (writing code room) f cells.now result cells.now }
 {
-    let top = f.top;
-    if top == 0 {
-        return Does::Stop(CELL_OUTSIDE);
-    }
-    Does::Write(cells[top - 1])
+    let i = f.last()?;
+    Ok(Does::Write(cells[i]))
 }
 
 // A line is to be read into the cell that a push writes.
-fn read(f: Frame) -> Does
+fn read(f: Frame) -> Result<Does, Refusal>
     requires { Steady f }
     ensures { (code : List Instr) (room : ℕ) (cells : List ℤ) → Did code room (operate code room read) f cells result cells }
 {
-    let top = f.top;
-    if CELLS <= top {
-        return Does::Stop(CELL_OUTSIDE);
-    }
-    Does::Read(top)
+    let i = f.free()?;
+    Ok(Does::Read(i))
 }
 
-pub fn opr(cells: &mut [i64], places: usize, a: i64, f: Frame) -> Does
-    requires { (length cells.old ≡ max_cells) × Steady f }
+pub fn opr(cells: &mut Cells, places: usize, a: i64, f: Frame) -> Result<Does, Refusal>
+    requires { Steady f }
     ensures { (code : List Instr) (room : ℕ) → length code ≡ places → Did code room (perform code room OPR 0 a) f cells.old result cells.new }
 {
-    let top = f.top;
-    match a {
-        RETURN => back(cells, places, f),
-        NEGATE => unary(cells, NEGATE, f),
-        ADD => binary(cells, ADD, f),
-        SUB => binary(cells, SUB, f),
-        MUL => binary(cells, MUL, f),
-        DIV => binary(cells, DIV, f),
-        ODD => unary(cells, ODD, f),
-        IDLE => Does::Next(f.onward(top)),
-        EQUAL => binary(cells, EQUAL, f),
-        UNEQUAL => binary(cells, UNEQUAL, f),
-        LESS => binary(cells, LESS, f),
-        AT_LEAST => binary(cells, AT_LEAST, f),
-        GREATER => binary(cells, GREATER, f),
-        AT_MOST => binary(cells, AT_MOST, f),
-        WRITE => write(cells, f),
-        NEW_LINE => Does::NewLine,
-        READ => read(f),
-        _ => Does::Stop(NOT_AN_OPERATION),
+    let Some(operator) = Operator::of(a) else {
+        return Err(Refusal::NotAnOperation);
+    };
+    match operator {
+        Operator::Return => back(cells, places, f),
+        Operator::Negate => unary(cells, f, arithmetic::negate),
+        Operator::Add => binary(cells, f, arithmetic::add),
+        Operator::Sub => binary(cells, f, arithmetic::sub),
+        Operator::Mul => binary(cells, f, arithmetic::mul),
+        Operator::Div => binary(cells, f, arithmetic::div),
+        Operator::Odd => unary(
+            cells,
+            f,
+            |x|
+                ensures { val_of result ≡ oddness x }
+            { Ok(arithmetic::remainder(x)) },
+        ),
+        Operator::Idle => Ok(Does::Next(f.onward(f.top))),
+        Operator::Equal => binary(
+            cells,
+            f,
+            |x, y|
+                ensures { val_of result ≡ compared equal x y }
+            { flagged(Compare::Equal.holds(x, y)) },
+        ),
+        Operator::Unequal => binary(
+            cells,
+            f,
+            |x, y|
+                ensures { val_of result ≡ compared unequal x y }
+            { flagged(Compare::Unequal.holds(x, y)) },
+        ),
+        Operator::Less => binary(
+            cells,
+            f,
+            |x, y|
+                ensures { val_of result ≡ compared less x y }
+            { flagged(Compare::Less.holds(x, y)) },
+        ),
+        Operator::AtLeast => binary(
+            cells,
+            f,
+            |x, y|
+                ensures { val_of result ≡ compared at_least x y }
+            { flagged(Compare::AtLeast.holds(x, y)) },
+        ),
+        Operator::Greater => binary(
+            cells,
+            f,
+            |x, y|
+                ensures { val_of result ≡ compared greater x y }
+            { flagged(Compare::Greater.holds(x, y)) },
+        ),
+        Operator::AtMost => binary(
+            cells,
+            f,
+            |x, y|
+                ensures { val_of result ≡ compared at_most x y }
+            { flagged(Compare::AtMost.holds(x, y)) },
+        ),
+        Operator::Write => write(cells, f),
+        Operator::NewLine => Ok(Does::NewLine),
+        Operator::Read => read(f),
     }
 }

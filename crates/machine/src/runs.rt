@@ -1,21 +1,24 @@
 // The counted run: quiet steps until one talks, its exchange, and on, until the program ends or the budget is spent.
 ghost use Rattle.std.specs.Prelude.{◌≡◌, ℕ, length};
 ghost use Rattle.numbers.specs.Limits.{max_cells};
+ghost use Rattle.numbers.specs.Refusals.{number_of};
+ghost use Rattle.pcode.specs.Code.{instrs_in};
+ghost use Rattle.pcode.specs.Coded.{lent};
 ghost use Rattle.machine.specs.Outcome.{run_outcome};
 ghost use Rattle.machine.specs.Frames.{Sound};
-ghost use Rattle.machine.specs.Steps.{code_of, Listed};
-ghost use Rattle.machine.specs.Runs.{Paused, Counted, outcome_of};
+ghost use Rattle.machine.specs.Steps.{Listed};
+ghost use Rattle.machine.specs.Runs.{Paused, Counted, number_at, outcome_of};
 
-use crate::frames::{CELLS, Frame};
-use crate::panel::{BUDGET_SPENT, DONE, ROOM_TOO_SMALL, TOO_MANY_INSTRUCTIONS};
+use crate::frames::{Cells, Frame};
 use crate::step::step;
 use crate::steps::Does;
-use crate::talk::{Talk, Talked, Tape, exchange};
-use numbers::room::clear_i64;
-use pcode::code_length;
+use crate::talk::{Talk, Tape, exchange};
+use numbers::limits::{CELLS, MAX_CODE};
+use numbers::refusal::Refusal;
+use pcode::Code;
 
-// Instructions in a code list.
-const MAX_CODE: usize = 4096;
+// The number of the panel for a program that halted.
+const DONE: u8 = 0;
 
 // Number, output length, lines taken, steps completed.
 #[repr(C)]
@@ -28,65 +31,54 @@ pub struct Ended {
 }
 
 // Quiet steps came to one that talks: the frame there, the budget that is left after it, and what it exchanges. Or the run
-// ended: its number, the frame, and the budget that is left.
+// ended: how, the frame, and the budget that is left.
 #[derive(Clone, Copy)]
 pub enum Pause {
     Talks(Frame, u32, Talk),
-    Ends(u8, Frame, u32),
+    Ends(Result<(), Refusal>, Frame, u32),
 }
 
-fn quiet(
-    kinds: &[i8],
-    levels: &[u16],
-    operands: &[i64],
-    cells: &mut [i64],
-    places: usize,
-    budget: u32,
-    start: Frame,
-) -> Pause
-    requires { Listed kinds.now levels.now operands.now places × (length cells.old ≡ max_cells) × Sound start }
-    ensures { (room : ℕ) → Paused (code_of kinds.now levels.now operands.now) room budget start cells.old result cells.new }
+fn quiet(code: Code<'_>, places: usize, cells: &mut Cells, budget: u32, start: Frame) -> Pause
+    requires { Listed (lent code) places × Sound start }
+    ensures { (room : ℕ) → Paused (instrs_in (lent code.entry)) room budget start cells.old result cells.new }
 {
     let mut f = start;
     let mut left = budget;
     while 0 < left {
-        match step(kinds, levels, operands, cells, places, f) {
-            Does::Next(g) => {
-                f = g;
-            }
-            Does::Halt(g) => {
-                return Pause::Ends(DONE, g, left - 1);
-            }
-            Does::Stop(n) => {
-                return Pause::Ends(n, f, left);
-            }
-            Does::Write(z) => {
-                return Pause::Talks(f, left - 1, Talk::Write(z));
-            }
-            Does::NewLine => {
-                return Pause::Talks(f, left - 1, Talk::NewLine);
-            }
-            Does::Read(i) => {
-                return Pause::Talks(f, left - 1, Talk::Read(i));
-            }
+        match step(code, places, cells, f) {
+            Ok(Does::Next(g)) => f = g,
+            Ok(Does::Halt(g)) => return Pause::Ends(Ok(()), g, left - 1),
+            Ok(Does::Write(z)) => return Pause::Talks(f, left - 1, Talk::Write(z)),
+            Ok(Does::NewLine) => return Pause::Talks(f, left - 1, Talk::NewLine),
+            Ok(Does::Read(i)) => return Pause::Talks(f, left - 1, Talk::Read(i)),
+            Err(refusal) => return Pause::Ends(Err(refusal), f, left),
         }
         left = left - 1;
     }
-    Pause::Ends(BUDGET_SPENT, f, 0)
+    Pause::Ends(Err(Refusal::BudgetSpent), f, 0)
+}
+
+// The number of an end.
+fn number(how: Result<(), Refusal>) -> u8
+    ensures { result ≡ number_at how }
+{
+    match how {
+        Ok(()) => DONE,
+        Err(refusal) => refusal.number(),
+    }
 }
 
 fn counted(
-    kinds: &[i8],
-    levels: &[u16],
-    operands: &[i64],
+    code: Code<'_>,
+    places: usize,
     input: &[u8],
     budget: u32,
     out: &mut [u8],
-    cells: &mut [i64],
-    places: usize,
+    cells: &mut Cells,
 ) -> Ended
-    requires { Listed kinds.now levels.now operands.now places × (length cells.old ≡ max_cells) }
-    ensures { Counted (code_of kinds.now levels.now operands.now) input.now budget out.old cells.old result out.new cells.new }
+    requires { Listed (lent code) places }
+    ensures counted { Counted (instrs_in (lent code.entry)) input.now budget out.old cells.old result out.new cells.new }
+    ensures long { length cells.new ≡ max_cells }
 {
     let start = Frame {
         pc: 0,
@@ -98,25 +90,25 @@ fn counted(
         out: 0,
         lines: 0,
     };
-    let mut p = quiet(kinds, levels, operands, cells, places, budget, start);
+    let mut p = quiet(code, places, cells, budget, start);
     loop {
         match p {
-            Pause::Ends(n, _, left) => {
+            Pause::Ends(how, _, left) => {
                 return Ended {
-                    number: n,
+                    number: number(how),
                     out_len: t.out,
                     lines: t.lines,
                     steps: budget - left,
                 };
             }
             Pause::Talks(f, left, w) => match exchange(w, cells, input, out, f, t) {
-                Talked::On(g, u) => {
+                Ok((g, u)) => {
                     t = u;
-                    p = quiet(kinds, levels, operands, cells, places, left, g);
+                    p = quiet(code, places, cells, left, g);
                 }
-                Talked::Stop(n) => {
+                Err(refusal) => {
                     return Ended {
-                        number: n,
+                        number: refusal.number(),
                         out_len: t.out,
                         lines: t.lines,
                         steps: budget - left - 1,
@@ -128,11 +120,11 @@ fn counted(
 }
 
 // A run that was not begun.
-fn refused(number: u8) -> Ended
-    ensures { (result.number ≡ number) × (result.out_len ≡ 0) × (result.lines ≡ 0) × (result.steps ≡ 0) }
+fn refused(refusal: Refusal) -> Ended
+    ensures { (result.number ≡ number_of refusal) × (result.out_len ≡ 0) × (result.lines ≡ 0) × (result.steps ≡ 0) }
 {
     Ended {
-        number: number,
+        number: refusal.number(),
         out_len: 0,
         lines: 0,
         steps: 0,
@@ -151,22 +143,18 @@ pub fn run(
 ) -> Ended
     ensures { outcome_of result out.new cells.new ≡ run_outcome (record { kinds = kinds.now; levels = levels.now; operands = operands.now }) input.now budget out.old cells.old }
 {
-    if cells.len() < CELLS {
-        return refused(ROOM_TOO_SMALL);
-    }
-    clear_i64(cells, 0, CELLS);
-    let places = code_length(kinds, levels, operands);
-    if MAX_CODE < places {
-        return refused(TOO_MANY_INSTRUCTIONS);
-    }
-    counted(
+    let Some(cells) = cells.first_chunk_mut::<CELLS>() else {
+        return refused(Refusal::RoomTooSmall);
+    };
+    cells.fill(0);
+    let code = Code {
         kinds,
         levels,
         operands,
-        input,
-        budget,
-        out,
-        &mut cells[..CELLS],
-        places,
-    )
+    };
+    let places = code.len();
+    if MAX_CODE < places {
+        return refused(Refusal::TooManyInstructions);
+    }
+    counted(code, places, input, budget, out, cells)
 }

@@ -1,14 +1,14 @@
 // What a step exchanges with the outside: numbers and newlines to the output, the prompt and a line of the input. Each is
 // made whole or not at all.
-ghost use Rattle.std.specs.Prelude.{◌≡◌, List, ℕ, ◌+◌, ◌^◌, ◌<◌, ℤ, length};
+ghost use Rattle.std.specs.Prelude.{◌≡◌, List, ℕ, ◌+◌, ◌^◌, ◌<◌, ℤ};
 ghost use Rattle.numbers.specs.Limits.{max_cells};
 ghost use Rattle.machine.specs.Frames.{Steady};
 ghost use Rattle.machine.specs.Talks.{wrote_to, took_to, Within, Ready, Spoke};
 
-use crate::frames::Frame;
-use crate::panel::{BAD_ENTRY, OUTPUT_FULL};
-use numbers::line::{Taken, next_entry};
-use numbers::screen::{Put, put_newline, put_number, put_prompt};
+use crate::frames::{Cells, Frame};
+use numbers::line::next_entry;
+use numbers::refusal::Refusal;
+use numbers::screen::{put_newline, put_number, put_prompt};
 
 // What is exchanged: a number to write, a newline, or a line to read into a cell.
 #[derive(Clone, Copy)]
@@ -24,13 +24,6 @@ pub struct Tape {
     pub at: usize,
     pub out: usize,
     pub lines: usize,
-}
-
-// The exchange is made, or refused with a number.
-#[derive(Clone, Copy)]
-pub enum Talked {
-    On(Frame, Tape),
-    Stop(u8),
 }
 
 impl Tape {
@@ -55,57 +48,49 @@ impl Tape {
     }
 }
 
-fn write(out: &mut [u8], z: i64, f: Frame, t: Tape) -> Talked
+fn write(out: &mut [u8], z: i64, f: Frame, t: Tape) -> Result<(Frame, Tape), Refusal>
     requires { Steady f × Within t out.old }
     ensures { (input : List ℕ) (cells : List ℤ) → Spoke input (Talk.Write z) f t cells out.old result cells out.new }
 {
-    let top = f.top;
-    let from = t.out;
-    let Put::At(end) = put_number(out, from, z) else {
-        return Talked::Stop(OUTPUT_FULL);
-    };
-    Talked::On(f.onward(top), t.wrote(end))
+    let end = put_number(out, t.out, z)?;
+    Ok((f.onward(f.top), t.wrote(end)))
 }
 
-fn newline(out: &mut [u8], f: Frame, t: Tape) -> Talked
+fn newline(out: &mut [u8], f: Frame, t: Tape) -> Result<(Frame, Tape), Refusal>
     requires { Steady f × Within t out.old }
     ensures { (input : List ℕ) (cells : List ℤ) → Spoke input Talk.NewLine f t cells out.old result cells out.new }
 {
-    let top = f.top;
-    let from = t.out;
-    let Put::At(end) = put_newline(out, from) else {
-        return Talked::Stop(OUTPUT_FULL);
-    };
-    Talked::On(f.onward(top), t.wrote(end))
+    let end = put_newline(out, t.out)?;
+    Ok((f.onward(f.top), t.wrote(end)))
 }
 
 // The entry is judged before the prompt is put, and both before the cell is written.
-fn read(cells: &mut [i64], input: &[u8], out: &mut [u8], i: usize, f: Frame, t: Tape) -> Talked
-    requires { (length cells.old ≡ max_cells) × Steady f × Within t out.old × (i < max_cells) × (f.top < max_cells) × (t.lines < 2 ^ 32) }
+fn read(
+    cells: &mut Cells,
+    input: &[u8],
+    out: &mut [u8],
+    i: usize,
+    f: Frame,
+    t: Tape,
+) -> Result<(Frame, Tape), Refusal>
+    requires { Steady f × Within t out.old × (i < max_cells) × (f.top < max_cells) × (t.lines < 2 ^ 32) }
     ensures { Spoke input.now (Talk.Read i) f t cells.old out.old result cells.new out.new }
 {
-    let top = f.top;
-    let at = t.at;
-    let from = t.out;
-    let Taken::Got(z, next) = next_entry(input, at) else {
-        return Talked::Stop(BAD_ENTRY);
-    };
-    let Put::At(end) = put_prompt(out, from) else {
-        return Talked::Stop(OUTPUT_FULL);
-    };
+    let (z, next) = next_entry(input, t.at)?;
+    let end = put_prompt(out, t.out)?;
     cells[i] = z;
-    Talked::On(f.onward(top + 1), t.took(next, end))
+    Ok((f.onward(f.top + 1), t.took(next, end)))
 }
 
 pub fn exchange(
     w: Talk,
-    cells: &mut [i64],
+    cells: &mut Cells,
     input: &[u8],
     out: &mut [u8],
     f: Frame,
     t: Tape,
-) -> Talked
-    requires { (length cells.old ≡ max_cells) × Steady f × Within t out.old × Ready w f × (t.lines < 2 ^ 32) }
+) -> Result<(Frame, Tape), Refusal>
+    requires { Steady f × Within t out.old × Ready w f × (t.lines < 2 ^ 32) }
     ensures { Spoke input.now w f t cells.old out.old result cells.new out.new }
 {
     match w {

@@ -5,11 +5,6 @@ ghost use Rattle.numbers.specs.Answers.{val_of, arith_of, compare_of};
 
 use crate::refusal::Refusal;
 
-// The magnitudes of the greatest and of the least number.
-pub const POSITIVE_MAGNITUDE: u64 = 9223372036854775807;
-
-pub const NEGATIVE_MAGNITUDE: u64 = 9223372036854775808;
-
 // + - * /
 #[derive(Clone, Copy, PartialEq, Eq)]
 pub enum Arith {

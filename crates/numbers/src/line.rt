@@ -5,12 +5,16 @@ ghost use Rattle.numbers.specs.Limits.{greatest, least_magnitude};
 ghost use Rattle.numbers.specs.Line.{line, field, magnitude, plus, minus, value_of};
 ghost use Rattle.numbers.specs.Answers.{option_of, line_entry, Takes};
 
-use crate::arithmetic::{NEGATIVE_MAGNITUDE, POSITIVE_MAGNITUDE};
 use crate::bytes::{is_blank, is_digit};
 use crate::refusal::Refusal;
 
+// The magnitudes of the greatest and of the least number.
+const POSITIVE_MAGNITUDE: u64 = i64::MAX as u64;
+
+const NEGATIVE_MAGNITUDE: u64 = POSITIVE_MAGNITUDE + 1;
+
 // A value above this times 10 is above every magnitude of an i64.
-const MOST_BEFORE_DIGIT: u64 = 922337203685477580;
+const MOST_BEFORE_DIGIT: u64 = POSITIVE_MAGNITUDE / 10;
 
 // The first line of s, without its end: a part of s itself.
 pub fn line(s: &[u8]) -> &[u8]
@@ -31,7 +35,7 @@ pub fn field(s: &[u8]) -> &[u8]
 }
 
 // Digits, at least one, all of them, up to a bound.
-fn read_digits(s: &[u8], most: u64) -> Option<u64>
+pub fn read_digits(s: &[u8], most: u64) -> Option<u64>
     requires { most ≤ least_magnitude }
     ensures { option_of result ≡ magnitude most s.now }
 {

@@ -1,207 +1,146 @@
 // Standard input, line by line: as much is read at a time as there is room for, and what is left of the last line is kept
 // for the next time.
-ghost use Rattle.std.specs.Prelude.{◌≤◌, length};
-ghost use Rattle.replay.specs.Turns.{TurnWithin};
+ghost use Rattle.std.specs.Prelude.{◌<◌, ◌≤◌, length, IfSome};
 
-use protocol::parts::{is_same, part, part_length};
-use protocol::print::{put_byte, put_text};
+use crate::compile::answer_compile;
+use crate::lists::answer_listed;
+use crate::run::answer_run;
+use crate::walks::answer_walk;
+use desk::page::Page;
 use std::io;
 use std::io::Read;
 
-const NEWLINE: u8 = b'\n';
+// "A text has at most 40,000 bytes"
+pub const MOST_TEXT: usize = 40000;
 
-// After a turn: how many bytes of the next line are there, and whether it is what remains of a line too long; or the input
-// is over.
-#[derive(Clone, Copy)]
-pub enum Turn {
-    More(usize, bool),
-    Over,
-}
+// "a code list at most 5,000 places"
+pub const MOST_PLACES: usize = 5000;
 
-// Where the cases come from and the answers go; and whether all that was read and written so far went well, or the first
-// error. Such an error ends the reading after the turn that it comes in.
+// The most bytes of input, and of output.
+pub const MOST_BYTES: usize = 65536;
+
+// What was read and is not answered: the room's first `have` bytes, and whether they are what remains of a line too long.
 #[derive(Drop)]
-struct Streams<'a, I, P> {
-    input: I,
-    output: &'a P,
-    outcome: io::Result<()>,
+struct Lines<'a> {
+    room: &'a mut [u8],
+    have: usize,
+    is_long: bool,
+    ghost within: { have ≤ length room.now },
 }
 
-// A case's name, and what follows it.
-pub fn put_name(line: &[u8], word: &[u8], answer: &mut [u8]) -> usize
-    ensures { result ≤ length answer.old }
-{
-    let n = put_text(answer, 0, part(line, b' ', 0));
-    put_text(answer, n, word)
+// The answer to a case, by its sort; None where the line is none.
+fn answer_case(line: &[u8], answer: &mut Page<'_>) -> Option<()> {
+    match line.split(|b| *b == b' ').nth(1)? {
+        b"run" => answer_run(line, answer),
+        b"compile" => answer_compile(line, answer),
+        b"walk" => answer_walk(line, answer),
+        b"listed" => answer_listed(line, answer),
+        _ => None,
+    }
 }
 
-// `ID unknown`
-pub fn unknown(line: &[u8], answer: &mut [u8]) -> usize
-    ensures { result ≤ length answer.old }
+// Where the first line ends.
+fn line_end(s: &[u8]) -> Option<usize>
+    ensures { IfSome result (λ n. n < length s.now) }
 {
-    put_name(line, b" unknown", answer)
-}
-
-// The answer to a case, by its sort.
-fn answer_case(line: &[u8], answer: &mut [u8]) -> usize
-    ensures { result ≤ length answer.old }
-{
-    if is_same(part(line, b' ', 1), b"run") {
-        return crate::run::answer_run(line, answer);
-    }
-    if is_same(part(line, b' ', 1), b"compile") {
-        return crate::compile::answer_compile(line, answer);
-    }
-    if is_same(part(line, b' ', 1), b"walk") {
-        return crate::walks::answer_walk(line, answer);
-    }
-    if is_same(part(line, b' ', 1), b"listed") {
-        return crate::lists::answer_listed(line, answer);
-    }
-    unknown(line, answer)
+    s.iter().position(|b| *b == b'\n')
 }
 
 // Writes an answer and a newline.
-fn write_answer<I, P: Print>(streams: &mut Streams<I, P>, answer: &mut [u8], n: usize)
-    requires { n ≤ length answer.old }
-{
-    let e = put_byte(answer, n, NEWLINE);
-    let written = streams.output.write_all(&answer[..e]);
-    streams.outcome = streams.outcome.and(written);
+fn write_answer<P: Print>(output: &P, answer: &mut Page<'_>) -> io::Result<()> {
+    answer.put(b"\n");
+    output.write_all(answer.text())
 }
 
-// Answers a line, unless it is to be skipped. An empty line is no case.
-fn answer_line<I, P: Print>(
-    streams: &mut Streams<I, P>,
-    skip: bool,
-    line: &[u8],
-    answer: &mut [u8],
-) {
-    if skip {
-        return;
+// Answers `ID unknown`.
+fn answer_unknown<P: Print>(output: &P, line: &[u8], room: &mut [u8]) -> io::Result<()> {
+    let mut answer = Page::new(room);
+    if let Some(name) = line.split(|b| *b == b' ').next() {
+        answer.put(name);
     }
-    if line.len() == 0 {
-        return;
-    }
-    let n = answer_case(line, answer);
-    write_answer(streams, answer, n);
+    answer.put(b" unknown");
+    write_answer(output, &mut answer)
 }
 
-// Moves the bytes from `from` up to `to` to the front.
-fn shift(text: &mut [u8], from: usize, to: usize)
-    requires { to ≤ length text.old }
-{
-    let mut i = from;
-    while i < to {
-        let b = text[i];
-        text[i - from] = b;
-        i = i + 1;
+// Answers a line. An empty line is no case.
+fn answer_line<P: Print>(output: &P, line: &[u8], room: &mut [u8]) -> io::Result<()> {
+    if line.is_empty() {
+        return Ok(());
+    }
+    let mut answer = Page::new(room);
+    match answer_case(line, &mut answer) {
+        Some(()) => write_answer(output, &mut answer),
+        None => answer_unknown(output, line, room),
     }
 }
 
-// Answers the whole lines among the first bytes, and moves what is left to the front.
-fn answer_lines<I, P: Print>(
-    streams: &mut Streams<I, P>,
-    text: &mut [u8],
-    have: usize,
-    long: bool,
-    answer: &mut [u8],
-) -> Turn
-    requires { have ≤ length text.old }
-    ensures { TurnWithin (length text.old) result }
-{
-    let mut at = 0;
-    let mut skip = long;
-    while at < have {
-        let rest = &text[at..have];
-        let n = part_length(rest, NEWLINE);
-        if n == rest.len() {
-            shift(text, at, have);
-            return Turn::More(have - at, skip);
+impl Lines<'_> {
+    // Reads behind the bytes that are there, and tells how many bytes were read.
+    fn read<I: Read>(&mut self, input: &mut I) -> io::Result<usize> {
+        let got = input.read(&mut self.room[self.have..])?;
+        self.have += got;
+        Ok(got)
+    }
+
+    // Answers the line that the input ends in.
+    fn answer_last<P: Print>(&self, output: &P, answer: &mut [u8]) -> io::Result<()> {
+        if self.is_long {
+            return Ok(());
         }
-        answer_line(streams, skip, &rest[..n], answer);
-        skip = false;
-        at = at + n + 1;
+        answer_line(output, &self.room[..self.have], answer)
     }
-    Turn::More(0, skip)
-}
 
-// Reads behind the bytes that are there, and tells how many there are then.
-fn read_more<I: Read, P>(streams: &mut Streams<I, P>, text: &mut [u8], have: usize) -> usize
-    requires { have ≤ length text.old }
-    ensures { result ≤ length text.old }
-{
-    match streams.input.read(&mut text[have..]) {
-        Ok(got) => have + got,
-        Err(error) => {
-            streams.outcome = streams.outcome.and(Err(error));
-            have
+    // Answers the lines that are whole, and moves what is left to the front.
+    fn answer_whole<P: Print>(&mut self, output: &P, answer: &mut [u8]) -> io::Result<()> {
+        let have = self.have;
+        let mut at = 0;
+        while let Some(n) = line_end(&self.room[at..have]) {
+            let end = at + n;
+            if !self.is_long {
+                answer_line(output, &self.room[at..end], answer)?;
+            }
+            self.is_long = false;
+            at = end + 1;
         }
+        self.room.copy_within(at..have, 0);
+        self.have = have - at;
+        Ok(())
+    }
+
+    // A line that fills the room is too long: it is answered by its name, and what remains of it is skipped.
+    fn cut_long<P: Print>(&mut self, output: &P, answer: &mut [u8]) -> io::Result<()> {
+        if self.have < self.room.len() {
+            return Ok(());
+        }
+        if !self.is_long {
+            answer_unknown(output, self.room, answer)?;
+        }
+        self.have = 0;
+        self.is_long = true;
+        Ok(())
     }
 }
 
-// A line that fills the whole text is too long: it is answered by its name, and what remains of it is skipped.
-fn cut_long<I, P: Print>(
-    streams: &mut Streams<I, P>,
-    text: &mut [u8],
-    turn: Turn,
-    answer: &mut [u8],
-) -> Turn
-    ensures { TurnWithin (length text.old) result }
-{
-    let Turn::More(have, long) = turn else {
-        return Turn::Over;
-    };
-    if have < text.len() {
-        return turn;
-    }
-    if long {
-        return Turn::More(0, true);
-    }
-    let n = unknown(text, answer);
-    write_answer(streams, answer, n);
-    Turn::More(0, true)
-}
-
-// Reads once, and answers what lines are whole.
-fn take_turn<I: Read, P: Print>(
-    streams: &mut Streams<I, P>,
-    text: &mut [u8],
-    have: usize,
-    long: bool,
-    answer: &mut [u8],
-) -> Turn
-    requires { have ≤ length text.old }
-    ensures { TurnWithin (length text.old) result }
-{
-    let more = read_more(streams, text, have);
-    if more == have {
-        answer_line(streams, long, &text[..have], answer);
-        return Turn::Over;
-    }
-    let turn = answer_lines(streams, text, more, long, answer);
-    cut_long(streams, text, turn, answer)
-}
-
-// Answers every case on standard input, and returns the first error that reading or writing gave. A loop has to end: this
-// one counts its turns, up to a number that no run comes to.
+// Answers every case on standard input, up to the first error that reading or writing gives. A loop has to end: this one
+// counts its turns, up to a number that no run comes to.
 pub fn serve<R: Input + Print>(rt: &R, text: &mut [u8], answer: &mut [u8]) -> io::Result<()> {
-    let mut streams = Streams {
-        input: rt.reader(),
-        output: rt,
-        outcome: Ok(()),
+    let mut input = rt.reader();
+    let mut lines = Lines {
+        room: text,
+        have: 0,
+        is_long: false,
     };
-    let mut have = 0;
-    let mut long = false;
     for _ in 0..u64::MAX {
-        let Turn::More(n, l) = take_turn(&mut streams, text, have, long, answer) else {
-            break;
-        };
-        if streams.outcome.is_err() {
-            break;
+        match lines.read(&mut input) {
+            Ok(0) => return lines.answer_last(rt, answer),
+            Ok(_) => {}
+            Err(error) => {
+                let _ = lines.answer_last(rt, answer);
+                return Err(error);
+            }
         }
-        have = n;
-        long = l;
+        lines.answer_whole(rt, answer)?;
+        lines.cut_long(rt, answer)?;
     }
-    streams.outcome
+    Ok(())
 }

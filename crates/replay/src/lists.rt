@@ -1,134 +1,53 @@
 // Cases `ID listed CODE ROOM`, answered `ID listed NUMBER OUTLEN OUTPUT`.
-ghost use Rattle.std.specs.Prelude.{◌≤◌, length};
-
-use crate::lines::{put_name, unknown};
-use listing::Listed;
-use protocol::parts::{is_same, part, parts};
-use protocol::print::{put_byte, put_bytes, put_count};
-use protocol::read::{Count, Number, read_code, read_number};
-
-// "a code list at most 5,000 places"
-const PLACES: usize = 5000;
+use crate::lines::MOST_PLACES;
+use desk::page::Page;
+use pcode::Code;
+use protocol::print::{put_bytes, put_count};
+use protocol::read::{read_code, read_number};
 
 // "In `listed` ROOM is at most 262,144"
-const BYTES: usize = 262144;
+const MOST_ROOM: usize = 262144;
 
-const GREATEST_ROOM: u32 = 262144;
-
-const BLANK: u8 = b' ';
-
-// The words of a case.
-const WORDS: usize = 4;
-
-// NUMBER OUTLEN OUTPUT
-fn put_listed(line: &[u8], l: Listed, out: &[u8], answer: &mut [u8]) -> usize
-    ensures { result ≤ length answer.old }
-{
-    let n = l.out_len;
-    if out.len() < n {
-        return unknown(line, answer);
+// Answers a case of a listing; None where the line is none.
+pub fn answer_listed(line: &[u8], answer: &mut Page<'_>) -> Option<()> {
+    let mut words = line.split(|b| *b == b' ');
+    let name = words.next()?;
+    let _sort = words.next()?;
+    let mut kinds = [0; MOST_PLACES];
+    let mut levels = [0; MOST_PLACES];
+    let mut operands = [0; MOST_PLACES];
+    let code = read_code(words.next()?, &mut kinds, &mut levels, &mut operands)?;
+    let room = room_of(words.next()?)?;
+    if words.next().is_some() {
+        return None;
     }
-    let a = put_name(line, b" listed", answer);
-    let b = put_count(answer, a, l.number as usize);
-    let c = put_count(answer, b, n);
-    let d = put_byte(answer, c, BLANK);
-    put_bytes(answer, d, &out[..n])
+    put_listed(answer, name, code, &mut [0; MOST_ROOM], room)
 }
 
-// All is there: lists, and answers.
-fn list_all(
-    line: &[u8],
-    kinds: &[i8],
-    levels: &[u16],
-    operands: &[i64],
-    room: usize,
+// Puts a listing over a room of so many bytes: NAME listed NUMBER OUTLEN OUTPUT
+fn put_listed(
+    answer: &mut Page<'_>,
+    name: &[u8],
+    code: Code<'_>,
     out: &mut [u8],
-    answer: &mut [u8],
-) -> usize
-    ensures { result ≤ length answer.old }
-{
-    if out.len() < room {
-        return unknown(line, answer);
-    }
-    let l = listing::list(kinds, levels, operands, &mut out[..room]);
-    put_listed(line, l, out, answer)
+    room: usize,
+) -> Option<()> {
+    let out = out.get_mut(..room)?;
+    let listed = listing::list(code.kinds, code.levels, code.operands, out);
+    let out = out.get(..listed.out_len)?;
+    answer.put(name);
+    answer.put(b" listed");
+    put_count(answer, listed.number as usize);
+    put_count(answer, listed.out_len);
+    answer.put(b" ");
+    put_bytes(answer, out);
+    Some(())
 }
 
 // ROOM. The cases have a room of one byte less than a listing, also where that has none: no byte is lent then.
-fn room_of(word: &[u8]) -> Number {
-    if is_same(word, b"-1") {
-        return Number::Of(0);
+fn room_of(word: &[u8]) -> Option<usize> {
+    if word == b"-1".as_slice() {
+        return Some(0);
     }
-    read_number(word, GREATEST_ROOM)
-}
-
-// With ROOM.
-fn list_room(
-    line: &[u8],
-    kinds: &[i8],
-    levels: &[u16],
-    operands: &[i64],
-    answer: &mut [u8],
-) -> usize
-    ensures { result ≤ length answer.old }
-{
-    let Number::Of(room) = room_of(part(line, BLANK, 3)) else {
-        return unknown(line, answer);
-    };
-    let mut out = [0u8; BYTES];
-    list_all(
-        line,
-        kinds,
-        levels,
-        operands,
-        room as usize,
-        &mut out,
-        answer,
-    )
-}
-
-// With the first places of CODE: cutting one of the three lists cuts the code list.
-fn list_places(
-    line: &[u8],
-    kinds: &[i8],
-    levels: &[u16],
-    operands: &[i64],
-    n: usize,
-    answer: &mut [u8],
-) -> usize
-    ensures { result ≤ length answer.old }
-{
-    if kinds.len() < n {
-        return unknown(line, answer);
-    }
-    list_room(line, &kinds[..n], levels, operands, answer)
-}
-
-// With CODE.
-fn list_code(
-    line: &[u8],
-    kinds: &mut [i8],
-    levels: &mut [u16],
-    operands: &mut [i64],
-    answer: &mut [u8],
-) -> usize
-    ensures { result ≤ length answer.old }
-{
-    let Count::Of(n) = read_code(part(line, BLANK, 2), kinds, levels, operands) else {
-        return unknown(line, answer);
-    };
-    list_places(line, kinds, levels, operands, n, answer)
-}
-
-// Answers a case of a listing.
-pub fn answer_listed(line: &[u8], answer: &mut [u8]) -> usize
-    ensures { result ≤ length answer.old }
-{
-    if parts(line, BLANK) != WORDS {
-        return unknown(line, answer);
-    }
-    let mut kinds = [0i8; PLACES];
-    let mut levels = [0u16; PLACES];
-    let mut operands = [0i64; PLACES];
-    list_code(line, &mut kinds, &mut levels, &mut operands, answer)
+    Some(read_number(word, MOST_ROOM as u32)? as usize)
 }

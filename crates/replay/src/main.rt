@@ -18,20 +18,15 @@ const TEXT: usize = 1572864;
 // Room for the longest answer.
 const ANSWER: usize = 524288;
 
-fn text_room() -> [u8; TEXT]
-    ensures { 1572864 ≡ length result }
+// Room of that many bytes. The contract gives only the length, which lending the array as a slice needs.
+fn room<const N: usize>() -> [u8; N]
+    ensures { N ≡ length result }
 {
-    [0; TEXT]
-}
-
-fn answer_room() -> [u8; ANSWER]
-    ensures { 524288 ≡ length result }
-{
-    [0; ANSWER]
+    [0; N]
 }
 
 fn main(rt: HostRuntime) -> io::Result<()> {
-    let mut text = text_room();
-    let mut answer = answer_room();
+    let mut text = room::<TEXT>();
+    let mut answer = room::<ANSWER>();
     lines::serve(&rt, &mut text, &mut answer)
 }

@@ -18,26 +18,9 @@ bool_iff true b f g = sym (f refl)
 bool_iff false true f g = g refl
 bool_iff false false f g = refl
 
-and_false : (a b : Bool) → b ≡ false → false ≡ (a && b)
-and_false true b e = sym e
-and_false false b e = refl
-
-and_true : (a b : Bool) → b ≡ true → a ≡ (a && b)
-and_true true b e = sym e
-and_true false b e = refl
-
 or : (b r : Bool) → r ≡ true → elim b [ true ↦ true | false ↦ r ] ≡ true
 or true r h = refl
 or false r h = h
-
--- a row that can be read
-pub legible : (s xs : List ℕ) (used k : ℕ) → Sound s xs used → k < used → Legible s xs k
-legible s xs used k g h = record {
-  room = omega (arith, g.linked.most, g.linked.room);
-  lies = (g.named k h).lies;
-  hashed = g.hashed k h;
-  older = g.linked.older k h;
-}
 
 -- whether a row has the name w
 module _ (s xs : List ℕ) (k : ℕ) (w : List ℕ) (h : ℕ) (l : Legible s xs k) (q : h ≡ hash_of w) where

@@ -8,7 +8,6 @@ use lib.ListN.{length, get_or}
 use Rattle.std.specs.Prelude.{Result, Ok, Err}
 use Rattle.numbers.specs.Limits.{row_share}
 use Rattle.numbers.specs.declared.refusal.Refusal.{Refusal}
-use Rattle.numbers.specs.Refusals.{number_of}
 use Rattle.numbers.specs.Stack.{links}
 use Rattle.lexer.specs.Tokens.{Name}
 use Rattle.tree.specs.Tree.{Const, Procs}
@@ -16,13 +15,13 @@ use Rattle.tree.specs.Layout.{Node, Nodes, list_kind, member}
 use Rattle.tree.specs.Nodes.{list_nodes, name_node, consts_node, names_node, procs_node}
 use Rattle.tree.specs.Reading.{Two, two_at, next_at, branch_at, After}
 use Rattle.tree.specs.Parts.{list_count}
-use Rattle.symbols.specs.Symbols.{Scope, Row, Rows, refuse_rows, const_rows, var_rows}
+use Rattle.symbols.specs.Symbols.{Scope, Row, Rows, const_rows, var_rows}
 use Rattle.symbols.specs.Table.{rows_in, scope_at, Kept}
 use Rattle.symbols.specs.Chains.{scope_kept}
 use Rattle.symbols.specs.Kept.{rows_length, scoped_kept, kept_on}
 use Rattle.translator.specs.declared.procedures.Place.{Place}
 use Rattle.translator.specs.Translate.{Done, with_rows, procs_code}
-use Rattle.translator.specs.Rows.{Can, Rowed, Declared, rowed, unrowed, ConstsAt, NamesAt}
+use Rattle.translator.specs.Rows.{Can, Rowed, Declared, unrowed, ConstsAt, NamesAt}
 use Rattle.translator.specs.Blocks.{inside_code, Start, Means, through, not, ProcsAt, InsideAt, HasInside}
 use Rattle.translator.proofs.Rowing.{rowed_at, names_length}
 
@@ -77,16 +76,16 @@ module _ {s tr : List ℕ} {i : ℕ} {cs : List Const} {vs : List Name} {ps : Pr
   pub rest_at : {j j₂ j₃ : ℕ} → After tr i j → After tr j j₂ → After tr j₂ j₃ → (t : Node) (ts : Nodes) → a.others ≡ member t ts → Two tr j₃ t ts
   rest_at {j} {j₂} {j₃} f g h t ts e = next_at tr j₂ j₃ (procs_node ps) t ts h (rw e at (part₃ f g))
 
-module _ (s tr xs ds : List ℕ) (i : ℕ) (p : Place) (G : Start s xs ds p) {ys : List ℕ} where
+module _ (s tr xs ds : List ℕ) (i : ℕ) (p : Place) (G : Start s xs ds p) where
   abbrev whole : List Const → List Name → Procs → Done
   whole cs vs ps = inside_code cs vs ps p.frame.level (scope_at s xs p.frame.scope) p.frame.address (rows_in s xs p.used) p.n
 
-  pub consts_stop : {e : Refusal} → ((l : List Const) → ConstsAt s tr i l → Declared (const_rows (rows_in s xs p.used) p.frame.level p.frame.address (scope_at s xs p.frame.scope) l) s xs p.used ys (Err e))
+  pub consts_stop : {ys : List ℕ} {e : Refusal} → ((l : List Const) → ConstsAt s tr i l → Declared (const_rows (rows_in s xs p.used) p.frame.level p.frame.address (scope_at s xs p.frame.scope) l) s xs p.used ys (Err e))
       → {ys' es : List ℕ} (cs : List Const) (vs : List Name) (ps : Procs) → InsideAt s tr i cs vs ps → Means (whole cs vs ps) s xs p.used ds p.n ys' es (Err e)
   unfolding inside_code
   consts_stop hc cs vs ps a = refused_rows (λ r1. with_rows (var_rows r1 p.frame.level p.frame.address (scope_at s xs p.frame.scope) vs) λ r2. procs_code ps p.frame.level (scope_at s xs p.frame.scope) (p.frame.address + length vs) r2 p.n) refl (hc cs (consts_at a))
 
-  module _ {u : ℕ} (hc : (l : List Const) → ConstsAt s tr i l → Declared (const_rows (rows_in s xs p.used) p.frame.level p.frame.address (scope_at s xs p.frame.scope) l) s xs p.used ys (Ok u)) where
+  module _ {ys : List ℕ} {u : ℕ} (hc : (l : List Const) → ConstsAt s tr i l → Declared (const_rows (rows_in s xs p.used) p.frame.level p.frame.address (scope_at s xs p.frame.scope) l) s xs p.used ys (Ok u)) where
     first : {cs : List Const} {vs : List Name} {ps : Procs} → InsideAt s tr i cs vs ps → Rowed (const_rows (rows_in s xs p.used) p.frame.level p.frame.address (scope_at s xs p.frame.scope) cs) s xs p.used ys u
     first {cs} a = rowed_at (hc cs (consts_at a))
 
@@ -96,18 +95,18 @@ module _ (s tr xs ds : List ℕ) (i : ℕ) (p : Place) (G : Start s xs ds p) {ys
     pub vars_can : HasInside s tr i → Can s ys u p.frame
     vars_can h = let w = first h.at in record { sound = w.sound; scoped = scoped_kept row_share p.used u xs ys p.frame.scope (omega arith) w.above w.kept G.scoped; low = omega (arith, G.low, w.above) }
 
-    module _ {j : ℕ} (f : After tr i j) {zs : List ℕ} where
+    module _ {j : ℕ} (f : After tr i j) where
       on_vars : (cs : List Const) (vs : List Name) (ps : Procs) → InsideAt s tr i cs vs ps → whole cs vs ps ≡ with_rows (var_rows (rows_in s ys u) p.frame.level p.frame.address (scope_at s ys p.frame.scope) vs) (λ r2. procs_code ps p.frame.level (scope_at s xs p.frame.scope) (p.frame.address + length vs) r2 p.n)
       unfolding inside_code
       on_vars cs vs ps a =
           ap (λ (x : Rows). with_rows x λ r1. with_rows (var_rows r1 p.frame.level p.frame.address (scope_at s xs p.frame.scope) vs) λ r2. procs_code ps p.frame.level (scope_at s xs p.frame.scope) (p.frame.address + length vs) r2 p.n) (first a).is
           ∙ ap (λ (x : Scope). with_rows (var_rows (rows_in s ys u) p.frame.level p.frame.address x vs) λ r2. procs_code ps p.frame.level (scope_at s xs p.frame.scope) (p.frame.address + length vs) r2 p.n) (sym (scope₁ a))
 
-      pub vars_stop : {e : Refusal} → ((l : List Name) → NamesAt s tr j l → Declared (var_rows (rows_in s ys u) p.frame.level p.frame.address (scope_at s ys p.frame.scope) l) s ys u zs (Err e))
+      pub vars_stop : {zs : List ℕ} {e : Refusal} → ((l : List Name) → NamesAt s tr j l → Declared (var_rows (rows_in s ys u) p.frame.level p.frame.address (scope_at s ys p.frame.scope) l) s ys u zs (Err e))
           → {ys' es : List ℕ} (cs : List Const) (vs : List Name) (ps : Procs) → InsideAt s tr i cs vs ps → Means (whole cs vs ps) s xs p.used ds p.n ys' es (Err e)
       vars_stop hv cs vs ps a = refused_rows (λ r2. procs_code ps p.frame.level (scope_at s xs p.frame.scope) (p.frame.address + length vs) r2 p.n) (on_vars cs vs ps a) (hv vs (vars_at a f))
 
-      module _ {w : ℕ} (hv : (l : List Name) → NamesAt s tr j l → Declared (var_rows (rows_in s ys u) p.frame.level p.frame.address (scope_at s ys p.frame.scope) l) s ys u zs (Ok w)) where
+      module _ {zs : List ℕ} {w : ℕ} (hv : (l : List Name) → NamesAt s tr j l → Declared (var_rows (rows_in s ys u) p.frame.level p.frame.address (scope_at s ys p.frame.scope) l) s ys u zs (Ok w)) where
         second : {cs : List Const} {vs : List Name} {ps : Procs} → InsideAt s tr i cs vs ps → Rowed (var_rows (rows_in s ys u) p.frame.level p.frame.address (scope_at s ys p.frame.scope) vs) s ys u zs w
         second {cs} {vs} a = rowed_at (hv vs (vars_at a f))
 

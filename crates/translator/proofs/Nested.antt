@@ -44,9 +44,6 @@ use Rattle.translator.proofs.Rowing.{head_numbers}
 use Rattle.translator.proofs.Blocks.{within, so_far, head_refused, no_place, inside_refused, end_refused, end_made}
 use Rattle.translator.proofs.Insides.{rest_at, procs_at, procs_fit}
 
-pub procs_fits : {s tr : List ℕ} {i : ℕ} {t : Procs} → ProcsAt s tr i t → i + 4 ≤ length tr
-procs_fits {s} {tr} {i} {t} a = (procs_head_lem tr i t a.stands).fits
-
 -- no procedures
 pub none_here : {s tr xs ds : List ℕ} {i : ℕ} (p : Place) → get_or tr i 0 ≡ node_no no_procedures_kind → Start s xs ds p → (sc : Scope) → (t : Procs) → ProcsAt s tr i t → Means (procs_code t p.frame.level sc p.frame.address (rows_in s xs p.used) p.n) s xs p.used ds p.n xs ds (Ok p)
 unfolding procs_code drafted
@@ -252,14 +249,14 @@ module _ (s tr xs ds : List ℕ) (i : ℕ) (p : Place) (G : Start s xs ds p) {n 
             most = omega (arith, J.below, J.ends);
           }
 
-          module _ {ys₂ es₂ : List ℕ} where
-            inside_is : inside_code cs vs inner (suc p.frame.level) (n.text ∷ sc) (links + length ar) (rows_in s ys u) (p.n + 1) ≡ inside_code cs vs inner (p.frame.level + 1) (scope_at s ys (p.used + 1)) (3 + size) (rows_in s ys u) m
-            inside_is =
-                ap (λ (l : ℕ). inside_code cs vs inner l (n.text ∷ sc) (links + length ar) (rows_in s ys u) (p.n + 1)) (sym (add-one p.frame.level))
-                ∙ ap (λ (c : Scope). inside_code cs vs inner (p.frame.level + 1) c (links + length ar) (rows_in s ys u) (p.n + 1)) (sym H.inner_is)
-                ∙ ap (λ (a : ℕ). inside_code cs vs inner (p.frame.level + 1) (scope_at s ys (p.used + 1)) (links + a) (rows_in s ys u) (p.n + 1)) (sym size_is)
-                ∙ ap (inside_code cs vs inner (p.frame.level + 1) (scope_at s ys (p.used + 1)) (3 + size) (rows_in s ys u)) (sym J.ends)
+          inside_is : inside_code cs vs inner (suc p.frame.level) (n.text ∷ sc) (links + length ar) (rows_in s ys u) (p.n + 1) ≡ inside_code cs vs inner (p.frame.level + 1) (scope_at s ys (p.used + 1)) (3 + size) (rows_in s ys u) m
+          inside_is =
+              ap (λ (l : ℕ). inside_code cs vs inner l (n.text ∷ sc) (links + length ar) (rows_in s ys u) (p.n + 1)) (sym (add-one p.frame.level))
+              ∙ ap (λ (c : Scope). inside_code cs vs inner (p.frame.level + 1) c (links + length ar) (rows_in s ys u) (p.n + 1)) (sym H.inner_is)
+              ∙ ap (λ (a : ℕ). inside_code cs vs inner (p.frame.level + 1) (scope_at s ys (p.used + 1)) (links + a) (rows_in s ys u) (p.n + 1)) (sym size_is)
+              ∙ ap (inside_code cs vs inner (p.frame.level + 1) (scope_at s ys (p.used + 1)) (3 + size) (rows_in s ys u)) (sym J.ends)
 
+          module _ {ys₂ es₂ : List ℕ} where
             pub inside_stop : {e : Refusal} → Means (inside_code cs vs inner (p.frame.level + 1) (scope_at s ys (p.used + 1)) (3 + size) (rows_in s ys u) m) s ys u es m ys₂ es₂ (Err e) → {ys' es' : List ℕ} → Means whole s xs p.used ds p.n ys' es' (Err e)
             inside_stop {e} (not w) = not {e = e} (inside_refused n ar cs vs inner b later p.frame.level sc p.frame.address rs p.n (rows_in s ys u) H.rowed.is J.below (inside_is ∙ w))
 
@@ -301,13 +298,13 @@ module _ (s tr xs ds : List ℕ) (i : ℕ) (p : Place) (G : Start s xs ds p) {n 
                   here_is : here_of e ≡ within n ar cs vs inner b later p.frame.level sc p.frame.address rs p.n T.code (rows_in s ys₂ q.used)
                   here_is = around_is we ∙ rw (rows₄, scope₄, add-one p.frame.level)
 
-                  module _ {es₃ es₄ : List ℕ} (hf : es₃ ≡ set es₂ (draft_share * p.n + 2) (q.n + size)) where
-                    end_is : end_code (within n ar cs vs inner b later p.frame.level sc p.frame.address rs p.n T.code (rows_in s ys₂ q.used)) q.frame.address (length ar) b (p.n + 1 + length T.code) ≡ end_code (here_of e) q.frame.address size b q.n
-                    end_is =
-                        ap (λ (ρ : Env). end_code ρ q.frame.address (length ar) b (p.n + 1 + length T.code)) (sym here_is)
-                        ∙ ap (λ (k : ℕ). end_code (here_of e) q.frame.address k b (p.n + 1 + length T.code)) (sym size_is)
-                        ∙ ap (end_code (here_of e) q.frame.address size b) (sym entry_is)
+                  end_is : end_code (within n ar cs vs inner b later p.frame.level sc p.frame.address rs p.n T.code (rows_in s ys₂ q.used)) q.frame.address (length ar) b (p.n + 1 + length T.code) ≡ end_code (here_of e) q.frame.address size b q.n
+                  end_is =
+                      ap (λ (ρ : Env). end_code ρ q.frame.address (length ar) b (p.n + 1 + length T.code)) (sym here_is)
+                      ∙ ap (λ (k : ℕ). end_code (here_of e) q.frame.address k b (p.n + 1 + length T.code)) (sym size_is)
+                      ∙ ap (end_code (here_of e) q.frame.address size b) (sym entry_is)
 
+                  module _ {es₃ es₄ : List ℕ} (hf : es₃ ≡ set es₂ (draft_share * p.n + 2) (q.n + size)) where
                     pub end_stop : {x : Refusal} → Emits (end_code (here_of e) q.frame.address size b q.n) q.n es₃ es₄ (Err x) → {ys' es' : List ℕ} → Means whole s xs p.used ds p.n ys' es' (Err x)
                     end_stop hb = refused_code (λ k w. end_refused n ar cs vs inner b later p.frame.level sc p.frame.address rs p.n (rows_in s ys u) H.rowed.is J.below T.code (rows_in s ys₂ q.used) q.frame.address (inside_is ∙ T.is) (end_is ∙ w)) hb
 

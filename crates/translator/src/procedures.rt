@@ -12,7 +12,7 @@ ghost use Rattle.translator.specs.Blocks.{inside_code, end_code, Start, Means, P
 use crate::Source;
 use crate::declarations::{Frame, const_decl, heading, names_decl};
 use emission::statements::body;
-use emission::{Env, emit, fix};
+use emission::{Env, emit, emit_oper, fix};
 use numbers::limits::LINKS;
 use numbers::refusal::Refusal;
 use pcode::{Kind, Operator};
@@ -53,7 +53,7 @@ pub fn finish(
 {
     let m = emit(draft, n, Kind::Int, 0, address)?;
     let q = body(env, i, draft, m)?;
-    emit(draft, q, Kind::Opr, 0, Operator::Return as u32)
+    emit_oper(draft, q, Operator::Return)
 }
 
 // The end of a block with `count` arguments, whose body stands at i.
@@ -96,7 +96,17 @@ pub fn inside(
         address: p.frame.address + source.tree[vars + 2],
         ..p.frame
     };
-    procedures(source, procs, table, draft, Place { frame, used, n: p.n })
+    procedures(
+        source,
+        procs,
+        table,
+        draft,
+        Place {
+            frame,
+            used,
+            n: p.n,
+        },
+    )
 }
 
 // The procedures at i: one with those inside it, and those after it.

@@ -5,7 +5,7 @@ use Prim.Native.Nat.{ℕ, ◌≤◌, ◌<◌}
 use native.Mathlib.Omega.{arith}
 use lib.IntN.{ℤ, pos}
 use lib.ListN.{length, get_or, take, drop, set, length-set, take-append-drop, get_or-append, get_or-eq_default}
-use lib.Seq.{length-take-le, set-append_left, set_out}
+use lib.Seq.{length-take-le, set-append_left}
 use Rattle.numbers.specs.Lent.{onto}
 use Rattle.walk.specs.declared.expressions.Env.{Env}
 use Rattle.walk.specs.declared.expressions.Clock.{Clock}
@@ -31,6 +31,3 @@ some_state vars e c h = (
 -- a value that is put into a place
 pub put_in : (vars : List ℤ) (n p : ℕ) (z y : ℤ) → p < n → y ≡ z → (lent vs : List ℤ) → vars ≡ onto lent vs → length vs ≡ n → set vars p y ≡ onto lent (set vs p z)
 put_in vars n p z y h e lent vs q l = rw (q, e) (set-append_left vs (drop (length vs) lent) p z (omega (arith, l)) ∙ rw (length-set vs p z))
-
-pub put_out : (vars : List ℤ) (n p : ℕ) (z : ℤ) → n ≤ p → (lent vs : List ℤ) → vars ≡ onto lent vs → length vs ≡ n → vars ≡ onto lent (set vs p z)
-put_out vars n p z h lent vs q l = q ∙ rw (set_out vs p z (omega (arith, l)))

@@ -165,7 +165,7 @@ ended {e} {input} {lv} {lo} {vars} {out} {p} {o} f (refused {k} w i h l) =
     rw i (halted {k = k} (record { number = refl; left = refl; most = l; written = sym h.written; lines = h.lines; out_is = h.out_is; vars_are = h.vars_are; few = omega (arith, h.many, f) }))
 
 -- the whole
-module _ (e : Env) (input : List ℕ) (budget : ℕ) (vars : List ℤ) (out : List ℕ) {i : ℕ} (f : After e.tree.now 4 i) (n : e.vars ≡ get_or e.tree.now (i + 2) 0) where
+module _ (e : Env) {i : ℕ} (f : After e.tree.now 4 i) (n : e.vars ≡ get_or e.tree.now (i + 2) 0) where
   count_is : {b : Block} → TreeAt e.text.now e.tree.now e.table.now e.used b → e.vars ≡ length b.vars
   count_is {b} a = n ∙ names_count b a.stands f
 
@@ -175,7 +175,13 @@ module _ (e : Env) (input : List ℕ) (budget : ℕ) (vars : List ℤ) (out : Li
   pub rows_here : {b : Block} → TreeAt e.text.now e.tree.now e.table.now e.used b → Rows e
   rows_here a = record { sound = a.sound; seen = a.seen; small = small_rows e.text.now e.table.now e.used (small_in a) }
 
-  module _ (l : budget < 4294967296) (z : vars ≡ onto vars (replicate max_variables (pos 0))) where
+  main_is : {b : Block} (a : TreeAt e.text.now e.tree.now e.table.now e.used b) (input : List ℕ) (budget : ℕ) (out : List ℕ)
+      → walk_block b input budget (length out) ≡ walked (main_walk (rows_of e) (length out) e.vars (body b.main) budget (begin e.vars input))
+  unfolding walk_main walk_stmt
+  main_is {b} a input budget out =
+      block_is a input budget (length out) ∙ rw (sym (count_is a)) (ap walked (then_assoc (tick budget (begin e.vars input)) (λ u. opened e.vars) (λ u. walk_stmts (rows_of e) (length out) b.main >> tick)))
+
+  module _ {input : List ℕ} {budget : ℕ} {vars : List ℤ} {out : List ℕ} (l : budget < 4294967296) (z : vars ≡ onto vars (replicate max_variables (pos 0))) where
     -- the first state
     first : {b : Block} → TreeAt e.text.now e.tree.now e.table.now e.used b → Holds e input vars out vars out (start_of budget) (begin e.vars input)
     first a = first_held e input vars out budget (few_vars a) l z
@@ -183,13 +189,7 @@ module _ (e : Env) (input : List ℕ) (budget : ℕ) (vars : List ℤ) (out : Li
     pub start_held : {b : Block} → TreeAt e.text.now e.tree.now e.table.now e.used b → HasState e input vars out (start_of budget)
     start_held a = record { lv = vars; lo = out; state = begin e.vars input; holds = first a }
 
-    main_is : {b : Block} (a : TreeAt e.text.now e.tree.now e.table.now e.used b)
-        → walk_block b input budget (length out) ≡ walked (main_walk (rows_of e) (length out) e.vars (body b.main) budget (begin e.vars input))
-    unfolding walk_main walk_stmt
-    main_is {b} a =
-        block_is a input budget (length out) ∙ rw (sym (count_is a)) (ap walked (then_assoc (tick budget (begin e.vars input)) (λ u. opened e.vars) (λ u. walk_stmts (rows_of e) (length out) b.main >> tick)))
-
     pub whole_walked : {j m : ℕ} {vars' : List ℤ} {out' : List ℕ} {r : Answer (Unit {0}) Refusal} {q : Progress} → After e.tree.now i j → After e.tree.now j m
         → ((t : Stmt) → StmtAt e.text.now e.tree.now m t → (lv : List ℤ) (lo : List ℕ) (w : State) → Holds e input lv lo vars out (start_of budget) w → Ends e input lv lo vars' out' (start_of budget) (main_walk (rows_of e) (length lo) e.vars t budget w) q r)
         → (b : Block) → TreeAt e.text.now e.tree.now e.table.now e.used b → Walks (walk_block b input budget (length out)) budget vars out vars' out' q r
-    whole_walked g h p b a = rw (main_is a) (ended (few_vars a) (p (body b.main) (main_in a f g h) vars out (begin e.vars input) (first a)))
+    whole_walked g h p b a = rw (main_is a input budget out) (ended (few_vars a) (p (body b.main) (main_in a f g h) vars out (begin e.vars input) (first a)))

@@ -1,33 +1,21 @@
 -- The proof of `after`: a leaf takes four numbers, any other node as many more as its fourth number says.
 use native.Mathlib.Omega.{arith}
-use mathlib.Core.Path.{◌∙◌, ap}
-use Prim.Native.Nat.{ℕ, ◌+◌}
+use borrow.Author.Tests.{ltb-true, ltb-false}
+use mathlib.Core.Path.{sym, ◌∙◌, ap}
+use Prim.Native.Nat.{ℕ, ◌+◌, ◌≤◌, ◌<◌}
+use lib.ListN.{get_or}
 use Rattle.tree.specs.Reading.{node_fits, size_least, leaf_next, branch_next}
 use Rattle.tree.proofs.after.Goals as goal
 
-pub offset_bounds-tree-i : goal.offset_bounds-tree-i
-offset_bounds-tree-i c = omega (arith, node_fits _ _ _ c.requires.1, size_least c.requires.0, c.well_formed)
-
-pub bounds-tree-i : goal.bounds-tree-i
-bounds-tree-i c = omega (arith, node_fits _ _ _ c.requires.1, size_least c.requires.0, c.well_formed)
-
-pub overflow_add-result : goal.overflow_add-result
-overflow_add-result c = omega (arith, node_fits _ _ _ c.requires.1, size_least c.requires.0, c.well_formed)
-
-pub returns-then-tree-i-lt-NEG : goal.returns-then-tree-i-lt-NEG
-returns-then-tree-i-lt-NEG c = λ t s. leaf_next _ _ t s c.if-tree-i-lt-NEG.true
-
-pub overflow_add-result-2 : goal.overflow_add-result-2
-overflow_add-result-2 c = omega (arith, node_fits _ _ _ c.requires.1, size_least c.requires.0, c.well_formed)
-
-pub overflow_add-i : goal.overflow_add-i
-overflow_add-i c = omega (arith, node_fits _ _ _ c.requires.1, size_least c.requires.0, c.well_formed)
+pub returns-then-is_leaf : goal.returns-then-is_leaf
+returns-then-is_leaf c =
+    let h : get_or c.args.tree.now c.args.i 0 < 3 = omega (arith, c.kind_at.ensures, ltb-true _ _ (sym c.is_leaf.ensures ∙ c.if-is_leaf.true)) in
+    λ t s. leaf_next _ _ t s h
 
 pub number_at-requires : goal.number_at-requires
 number_at-requires c = omega (arith, node_fits _ _ _ c.requires.1, size_least c.requires.0, c.well_formed)
 
-pub overflow_add-result-3 : goal.overflow_add-result-3
-overflow_add-result-3 c = omega (arith, node_fits _ _ _ c.requires.1, branch_next _ _ _ c.requires.1 c.if-tree-i-lt-NEG.false, c.number_at.ensures, c.well_formed)
-
 pub returns : goal.returns
-returns c = λ t s. ap (λ (n : ℕ). c.args.i + 4 + n) c.number_at.ensures ∙ branch_next _ _ t s c.if-tree-i-lt-NEG.false
+returns c =
+    let h : 3 ≤ get_or c.args.tree.now c.args.i 0 = omega (arith, c.kind_at.ensures, ltb-false _ _ (sym c.is_leaf.ensures ∙ c.if-is_leaf.false)) in
+    λ t s. ap (λ (n : ℕ). c.args.i + 4 + n) c.number_at.ensures ∙ branch_next _ _ t s h

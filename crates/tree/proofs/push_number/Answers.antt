@@ -7,8 +7,8 @@ use Rattle.tree.proofs.push_number.Goals as goal
 pub overflow_cast-v : goal.overflow_cast-v
 overflow_cast-v c = rw (plain _ _ c.ranges.value c.requires.not_negative.1) (tt, omega (arith, below _ _ c.ranges.value c.requires.not_negative.1))
 
-pub overflow_cast-v-3 : goal.overflow_cast-v-3
-overflow_cast-v-3 c = rw (plain _ _ c.ranges.value c.requires.not_negative.1) (omega (arith, below _ _ c.ranges.value c.requires.not_negative.1))
+pub overflow_cast-high : goal.overflow_cast-high
+overflow_cast-high c = rw (plain _ _ c.ranges.value c.requires.not_negative.1) (omega (arith, below _ _ c.ranges.value c.requires.not_negative.1))
 
 pub returns : goal.returns
 unfolding enc

@@ -1,6 +1,5 @@
 -- The proof of `value_at`: a literal is its low half and its high half.
 use native.Mathlib.Omega.{arith}
-use Prim.Native.Nat.{◌+◌}
 use Rattle.tree.specs.Reading.{literal_at}
 use Rattle.tree.proofs.Literals.{value_is, value_back}
 use Rattle.tree.proofs.value_at.Goals as goal
@@ -14,9 +13,6 @@ offset_bounds-tree-i c = omega (arith, (literal_at _ _ _ _ c.requires.2).fits, c
 pub bounds-tree-i : goal.bounds-tree-i
 bounds-tree-i c = omega (arith, (literal_at _ _ _ _ c.requires.2).fits, c.well_formed)
 
-pub overflow_cast-low : goal.overflow_cast-low
-overflow_cast-low c = omega (arith, c.shared_slice_known-1.given (c.args.i + 2))
-
 pub overflow_add-high : goal.overflow_add-high
 overflow_add-high c = omega (arith, (literal_at _ _ _ _ c.requires.2).fits, c.well_formed)
 
@@ -25,15 +21,6 @@ offset_bounds-tree-i-2 c = omega (arith, (literal_at _ _ _ _ c.requires.2).fits,
 
 pub bounds-tree-i-2 : goal.bounds-tree-i-2
 bounds-tree-i-2 c = omega (arith, (literal_at _ _ _ _ c.requires.2).fits, c.well_formed)
-
-pub overflow_cast-high : goal.overflow_cast-high
-overflow_cast-high c = omega (arith, c.shared_slice_known-2-1.given (c.args.i + 3))
-
-pub overflow_mul-result : goal.overflow_mul-result
-overflow_mul-result c = omega (arith, c.shared_slice_known-2-1.given (c.args.i + 3))
-
-pub overflow_add-result : goal.overflow_add-result
-overflow_add-result c = omega (arith, c.shared_slice_known-1.given (c.args.i + 2), c.shared_slice_known-2-1.given (c.args.i + 3))
 
 pub overflow_cast-result : goal.overflow_cast-result
 overflow_cast-result c = omega (arith, value_is _ _ _ _ c.requires.2, c.requires.3)

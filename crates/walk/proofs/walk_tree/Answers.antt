@@ -28,14 +28,14 @@ pub main_part-answer-requires : goal.main_part-answer-requires
 main_part-answer-requires c =
     let e : Env = record { text = c.args.text; tree = c.args.tree; table = c.args.table; used = c.args.used; vars = c.number_at.result } in
     record {
-      rows = rows_here e c.args.input.now c.args.budget c.args.vars.now c.args.out.now c.after-names.ensures c.number_at.ensures c.requires.has_tree.at;
+      rows = rows_here e c.after-names.ensures c.number_at.ensures c.requires.has_tree.at;
       has_stmt = record { stmt = _; at = main_in c.requires.has_tree.at c.after-names.ensures c.after-procedures.ensures c.after-main.ensures };
-      has_state = start_held e c.args.input.now c.args.budget c.args.vars.now c.args.out.now c.after-names.ensures c.number_at.ensures (omega (arith, c.well_formed)) c.requires.vars_cleared c.requires.has_tree.at;
+      has_state = start_held e c.after-names.ensures c.number_at.ensures (omega (arith, c.well_formed)) c.requires.vars_cleared c.requires.has_tree.at;
       at_start = refl;
-      few = few_vars e c.args.input.now c.args.budget c.args.vars.now c.args.out.now c.after-names.ensures c.number_at.ensures c.requires.has_tree.at;
+      few = few_vars e c.after-names.ensures c.number_at.ensures c.requires.has_tree.at;
     }
 
 pub returns : goal.returns
 returns c =
     let e : Env = record { text = c.args.text; tree = c.args.tree; table = c.args.table; used = c.args.used; vars = c.number_at.result } in
-    whole_walked e c.args.input.now c.args.budget c.args.vars.now c.args.out.now c.after-names.ensures c.number_at.ensures (omega (arith, c.well_formed)) c.requires.vars_cleared c.after-procedures.ensures c.after-main.ensures c.main_part-answer.ensures
+    whole_walked e c.after-names.ensures c.number_at.ensures (omega (arith, c.well_formed)) c.requires.vars_cleared c.after-procedures.ensures c.after-main.ensures c.main_part-answer.ensures

@@ -1,47 +1,66 @@
 -- The proof of `compile`.
-use mathlib.Core.Path.{sym, ◌∙◌}
+use mathlib.Core.Path.{◌≡◌, refl, sym, ap, ◌∙◌}
+use mathlib.Core.Bool.{true}
 use native.Mathlib.Omega.{arith}
-use lib.ListN.{length}
-use borrow.Author.Tests.{not-true, not-false}
+use lib.ListN.{length, take-append-drop}
+use Rattle.pcode.specs.Code.{Code}
 use Rattle.outcomes.specs.Compile.{code_of, compile}
-use Rattle.engine.specs.Entries.{taken}
-use Rattle.engine.proofs.Compiling.{leaves, roomy, cramped_code, cramped_work, all_long}
+use Rattle.outcomes.specs.Outcomes.{Work}
+use Rattle.engine.specs.Entries.{taken, Taken}
+use Rattle.engine.proofs.Compiling.{leaves, wiped, whole, roomy, cramped, code_short, work_short, tree_short, table_short, draft_short, all_held, all_long}
 use Rattle.engine.proofs.entries.compile.Goals as goal
+use Rattle.engine.proofs.entries.compile.Goals.{After-answer-compiled}
 
 pub returns-then-not-holds_code : goal.returns-then-not-holds_code
-returns-then-not-holds_code c = cramped_code _ _ _ (sym c.holds_code.ensures ∙ not-true _ c.if-not-holds_code.true-raw)
+returns-then-not-holds_code c =
+    let code : Code = record { kinds = c.args.kinds.now; levels = c.args.levels.now; operands = c.args.operands.now } in
+    let work : Work = record { tree = c.args.tree.now; table = c.args.table.now; draft = c.args.draft.now } in
+    cramped c.args.text.now code work (code_short code work (sym c.holds_code.ensures ∙ c.if-not-holds_code.true)) c.answer.ensures refl refl refl
 
-pub returns-then-not-holds_work : goal.returns-then-not-holds_work
-returns-then-not-holds_work c = cramped_work _ _ _ (sym c.holds_code.ensures ∙ not-false _ c.if-not-holds_code.false-raw) (sym c.holds_work.ensures ∙ not-true _ c.if-not-holds_work.true-raw)
+pub returns-in_default : goal.returns-in_default
+returns-in_default c =
+    let code : Code = record { kinds = c.args.kinds.now; levels = c.args.levels.now; operands = c.args.operands.now } in
+    let work : Work = record { tree = c.args.tree.now; table = c.args.table.now; draft = c.args.draft.now } in
+    cramped c.args.text.now code work (work_short code work (sym c.holds_code.ensures ∙ c.if-not-holds_code.false) (tree_short work c.in_default.ensures.cases)) c.answer-in_default.ensures refl refl refl
 
-pub draft_text-t-requires : goal.draft_text-t-requires
-draft_text-t-requires c =
-    let (a, (b, d)) = all_long 98400 (length c.args.tree.now) 6144 (length c.args.table.now) 16384 (length c.args.draft.now) (sym c.holds_work.ensures ∙ not-false _ c.if-not-holds_work.false-raw) in
-    record { tree_places_in_bounds = a; table_places_in_bounds = b; draft_places_in_bounds = d }
+pub returns-in_default-first_chunk_mut : goal.returns-in_default-first_chunk_mut
+returns-in_default-first_chunk_mut c =
+    let code : Code = record { kinds = c.args.kinds.now; levels = c.args.levels.now; operands = c.args.operands.now } in
+    let work : Work = record { tree = c.args.tree.now; table = c.args.table.now; draft = c.args.draft.now } in
+    cramped c.args.text.now code work (work_short code work (sym c.holds_code.ensures ∙ c.if-not-holds_code.false) (table_short work c.in-Some.ensures.cases.enough c.in_default-first_chunk_mut.ensures.cases)) c.answer-in_default-first_chunk_mut.ensures
+    (whole 98400 c.in-Some.ensures.cases.same) refl refl
 
-pub hand_out-requires : goal.hand_out-requires
-hand_out-requires c =
-    let t = taken c.draft_text-t.ensures.drafting in
-    record {
-      drafts = (code_of (compile c.args.text.now), rw c.length_in-n.ensures t.stands);
-      n_le_max_code = rw c.length_in-n.ensures t.few;
-      max_code_in_bounds = all_long 4096 (length c.args.kinds.now) 4096 (length c.args.levels.now) 4096 (length c.args.operands.now) (sym c.holds_code.ensures ∙ not-false _ c.if-not-holds_code.false-raw);
-    }
+pub room_some-draft : goal.room_some-draft
+room_some-draft c = (c.in-Some-first_chunk_mut-2.is, refl)
 
-pub wipe-requires : goal.wipe-requires
-wipe-requires c =
-    let (a, (b, d)) = all_long 98400 (length c.args.tree.now) 6144 (length c.args.table.now) 16384 (length c.args.draft.now) (sym c.holds_work.ensures ∙ not-false _ c.if-not-holds_work.false-raw) in
-    record {
-      tree_places_in_bounds = omega (arith, c.draft_text-t.auto.tree);
-      table_places_in_bounds = omega (arith, c.draft_text-t.auto.table);
-      draft_places_in_bounds = omega (arith, c.draft_text-t.auto.draft);
-    }
+pub returns-in_default-first_chunk_mut-2 : goal.returns-in_default-first_chunk_mut-2
+returns-in_default-first_chunk_mut-2 c =
+    let code : Code = record { kinds = c.args.kinds.now; levels = c.args.levels.now; operands = c.args.operands.now } in
+    let work : Work = record { tree = c.args.tree.now; table = c.args.table.now; draft = c.args.draft.now } in
+    cramped c.args.text.now code work
+    (work_short code work (sym c.holds_code.ensures ∙ c.if-not-holds_code.false) (draft_short work c.in-Some.ensures.cases.enough c.in-Some-first_chunk_mut.ensures.cases.enough c.in_default-first_chunk_mut-2.ensures.cases))
+    c.answer-in_default-first_chunk_mut-2.ensures (whole 98400 c.in-Some.ensures.cases.same) (whole 6144 c.in-Some-first_chunk_mut.ensures.cases.same) refl
+
+pub hand_out-requires-clause-drafts : goal.hand_out-requires-clause-drafts
+hand_out-requires-clause-drafts c =
+    let e = ap (λ a. a.length) c.answer-compiled.ensures in
+    (code_of (compile c.args.text.now), rw e (taken c.draft_text.ensures).stands)
+
+pub hand_out-requires-clause-n_le_max_code : goal.hand_out-requires-clause-n_le_max_code
+hand_out-requires-clause-n_le_max_code c = rw (ap (λ a. a.length) c.answer-compiled.ensures) (taken c.draft_text.ensures).few
+
+pub hand_out-requires-clause-max_code_in_bounds : goal.hand_out-requires-clause-max_code_in_bounds
+hand_out-requires-clause-max_code_in_bounds c =
+    all_long 4096 (length c.args.kinds.now) 4096 (length c.args.levels.now) 4096 (length c.args.operands.now) (sym c.holds_code.ensures ∙ c.if-not-holds_code.false)
 
 pub returns : goal.returns
 returns c =
-    let t = taken c.draft_text-t.ensures.drafting in
+    let code : Code = record { kinds = c.args.kinds.now; levels = c.args.levels.now; operands = c.args.operands.now } in
+    let work : Work = record { tree = c.args.tree.now; table = c.args.table.now; draft = c.args.draft.now } in
+    let t = taken c.draft_text.ensures in
     let l = code_of (compile c.args.text.now) in
-    let d = rw (sym c.length_in-n.ensures) at t.stands in
-    roomy _ _ _ (sym c.holds_code.ensures ∙ not-false _ c.if-not-holds_code.false-raw) (sym c.holds_work.ensures ∙ not-false _ c.if-not-holds_work.false-raw)
-    (leaves _ _ _ _ _ _ c.draft_text-t.new.tree c.draft_text-t.new.table t c.number_in.ensures c.length_in-n.ensures (c.hand_out.ensures.kinds_after l d) (c.hand_out.ensures.levels_after l d) (c.hand_out.ensures.operands_after l d)
-    (record { beyond = c.draft_text-t.ensures.past_tree_kept; zeros = c.wipe.ensures.tree_after }) (record { beyond = c.draft_text-t.ensures.past_table_kept; zeros = c.wipe.ensures.table_after }) (record { beyond = c.draft_text-t.ensures.past_draft_kept; zeros = c.wipe.ensures.draft_after }))
+    let e = ap (λ a. a.length) c.answer-compiled.ensures in
+    let d = rw (sym e) at t.stands in
+    roomy c.args.text.now code work (sym c.holds_code.ensures ∙ c.if-not-holds_code.false) (all_held work c.in-Some.ensures.cases.enough c.in-Some-first_chunk_mut.ensures.cases.enough c.in-Some-first_chunk_mut-2.ensures.cases.enough)
+    (leaves (compile c.args.text.now) code work c.draft_text.result t c.answer-compiled.ensures (c.hand_out.ensures.kinds_after l d) (c.hand_out.ensures.levels_after l d) (c.hand_out.ensures.operands_after l d)
+    (wiped 98400 (length c.draft_text.new.tree) c.args.tree.now (omega (arith, c.draft_text.array_long)) (c.fill.ensures.after (λ y h. h))) (wiped 6144 (length c.draft_text.new.table) c.args.table.now (omega (arith, c.draft_text.array_long2)) (c.fill-2.ensures.after (λ y h. h))) (wiped 16384 (length c.draft_text.new.draft) c.args.draft.now (omega (arith, c.draft_text.array_long3)) (c.fill-3.ensures.after (λ y h. h))))

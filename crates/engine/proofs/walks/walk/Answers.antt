@@ -1,45 +1,47 @@
 -- The proof of `walk`.
-use mathlib.Core.Path.{sym, ◌∙◌}
+use mathlib.Core.Path.{◌≡◌, refl, sym, ap, ◌∙◌}
 use native.Mathlib.Omega.{arith}
 use lib.IntN.{pos}
 use lib.ListN.{length}
-use borrow.Author.Tests.{not-true, not-false}
-use Rattle.numbers.proofs.Putting.{filling_whole}
-use Rattle.engine.proofs.Compiling.{all_long}
-use Rattle.engine.proofs.Walking.{zeros_stay, all_left, roomy_walk, cramped_vars, cramped_room}
+use Rattle.numbers.proofs.Putting.{filled_front}
+use Rattle.outcomes.specs.Outcomes.{Work}
+use Rattle.engine.proofs.Compiling.{wiped, whole, tree_short, table_short, draft_short, all_held}
+use Rattle.engine.proofs.Walking.{zeros_stay, all_left, roomy_walk, cramped_vars, cramped_room, ended_is}
 use Rattle.engine.proofs.walks.walk.Goals as goal
 
-pub returns-then-vars-lt-VARIABLES : goal.returns-then-vars-lt-VARIABLES
-returns-then-vars-lt-VARIABLES c = cramped_vars _ _ _ _ _ _ c.refused.ensures c.if-vars-lt-VARIABLES.true
+pub returns-then-vars-lt-MAX_ROWS : goal.returns-then-vars-lt-MAX_ROWS
+returns-then-vars-lt-MAX_ROWS c =
+    let work : Work = record { tree = c.args.tree.now; table = c.args.table.now; draft = c.args.draft.now } in
+    cramped_vars c.args.text.now c.args.input.now c.args.budget c.args.out.now c.args.vars.now work c.refused.ensures c.if-vars-lt-MAX_ROWS.true
 
-pub returns-then-not-holds_work : goal.returns-then-not-holds_work
-returns-then-not-holds_work c = cramped_room _ _ _ _ _ _ c.refused-then-not-holds_work.ensures c.if-vars-lt-VARIABLES.false (sym c.holds_work.ensures ∙ not-true _ c.if-not-holds_work.true-raw)
+pub returns-in_default : goal.returns-in_default
+returns-in_default c =
+    let work : Work = record { tree = c.args.tree.now; table = c.args.table.now; draft = c.args.draft.now } in
+    cramped_room c.args.text.now c.args.input.now c.args.budget c.args.out.now c.args.vars.now work c.refused-in_default.ensures c.if-vars-lt-MAX_ROWS.false (tree_short work c.in_default.ensures.cases) refl refl refl
 
-pub draft_text-t-requires : goal.draft_text-t-requires
-draft_text-t-requires c =
-    let (a, (b, d)) = all_long 98400 (length c.args.tree.now) 6144 (length c.args.table.now) 16384 (length c.args.draft.now) (sym c.holds_work.ensures ∙ not-false _ c.if-not-holds_work.false-raw) in
-    record { tree_places_in_bounds = a; table_places_in_bounds = b; draft_places_in_bounds = d }
+pub returns-in_default-first_chunk_mut : goal.returns-in_default-first_chunk_mut
+returns-in_default-first_chunk_mut c =
+    let work : Work = record { tree = c.args.tree.now; table = c.args.table.now; draft = c.args.draft.now } in
+    cramped_room c.args.text.now c.args.input.now c.args.budget c.args.out.now c.args.vars.now work c.refused-in_default-first_chunk_mut.ensures c.if-vars-lt-MAX_ROWS.false (table_short work c.in-Some.ensures.cases.enough c.in_default-first_chunk_mut.ensures.cases) (whole 98400 c.in-Some.ensures.cases.same) refl refl
 
-pub walk_drafted-e-requires : goal.walk_drafted-e-requires
-walk_drafted-e-requires c =
-    let (a, (b, d)) = all_long 98400 (length c.args.tree.now) 6144 (length c.args.table.now) 16384 (length c.args.draft.now) (sym c.holds_work.ensures ∙ not-false _ c.if-not-holds_work.false-raw) in
-    record {
-      drafted = (_, c.draft_text-t.ensures.drafting);
-      table_places_in_bounds = omega (arith, b, c.draft_text-t.auto.table);
-      vars_cleared = zeros_stay c.args.vars.now (filling_whole 512 (pos 0) c.args.vars.now c.clear_i64.ensures);
-    }
+pub room_some-draft : goal.room_some-draft
+room_some-draft c = (c.in-Some-first_chunk_mut-2.is, refl)
 
-pub wipe-requires : goal.wipe-requires
-wipe-requires c =
-    let (a, (b, d)) = all_long 98400 (length c.args.tree.now) 6144 (length c.args.table.now) 16384 (length c.args.draft.now) (sym c.holds_work.ensures ∙ not-false _ c.if-not-holds_work.false-raw) in
-    record {
-      tree_places_in_bounds = omega (arith, a, c.draft_text-t.auto.tree);
-      table_places_in_bounds = omega (arith, b, c.draft_text-t.auto.table);
-      draft_places_in_bounds = omega (arith, d, c.draft_text-t.auto.draft);
-    }
+pub returns-in_default-first_chunk_mut-2 : goal.returns-in_default-first_chunk_mut-2
+returns-in_default-first_chunk_mut-2 c =
+    let work : Work = record { tree = c.args.tree.now; table = c.args.table.now; draft = c.args.draft.now } in
+    cramped_room c.args.text.now c.args.input.now c.args.budget c.args.out.now c.args.vars.now work c.refused-in_default-first_chunk_mut-2.ensures c.if-vars-lt-MAX_ROWS.false (draft_short work c.in-Some.ensures.cases.enough c.in-Some-first_chunk_mut.ensures.cases.enough c.in_default-first_chunk_mut-2.ensures.cases)
+    (whole 98400 c.in-Some.ensures.cases.same) (whole 6144 c.in-Some-first_chunk_mut.ensures.cases.same) refl
+
+pub walk_text-walked-requires : goal.walk_text-walked-requires
+walk_text-walked-requires c = zeros_stay c.args.vars.now (filled_front 512 (pos 0) c.args.vars.now c.if-vars-lt-MAX_ROWS.false (c.fill.ensures.after (λ y h. h)) refl)
 
 pub returns : goal.returns
 returns c =
-    roomy_walk _ _ _ _ _ _ c.if-vars-lt-VARIABLES.false (sym c.holds_work.ensures ∙ not-false _ c.if-not-holds_work.false-raw)
-    (all_left _ _ _ _ _ c.draft_text-t.new.tree c.draft_text-t.new.table c.draft_text-t.new.draft (filling_whole 512 (pos 0) c.args.vars.now c.clear_i64.ensures) c.walk_drafted-e.ensures
-    (record { beyond = c.draft_text-t.ensures.past_tree_kept; zeros = c.wipe.ensures.tree_after }) (record { beyond = c.draft_text-t.ensures.past_table_kept; zeros = c.wipe.ensures.table_after }) (record { beyond = c.draft_text-t.ensures.past_draft_kept; zeros = c.wipe.ensures.draft_after }))
+    let work : Work = record { tree = c.args.tree.now; table = c.args.table.now; draft = c.args.draft.now } in
+    let vars = c.args.vars.now in
+    let e = ended_is c.walk_text-walked.result c.unwrap_or_else-ended.ensures in
+    roomy_walk c.args.text.now c.args.input.now c.args.budget c.args.out.now vars work c.if-vars-lt-MAX_ROWS.false
+    (all_held work c.in-Some.ensures.cases.enough c.in-Some-first_chunk_mut.ensures.cases.enough c.in-Some-first_chunk_mut-2.ensures.cases.enough)
+    (all_left _ c.args.budget c.args.out.now vars work {r = c.unwrap_or_else-ended.result} (filled_front 512 (pos 0) vars c.if-vars-lt-MAX_ROWS.false (c.fill.ensures.after (λ y h. h)) refl) (rw e c.walk_text-walked.ensures)
+    (wiped 98400 (length c.walk_text-walked.new.tree) c.args.tree.now (omega arith) (c.fill-2.ensures.after (λ y h. h))) (wiped 6144 (length c.walk_text-walked.new.table) c.args.table.now (omega arith) (c.fill-3.ensures.after (λ y h. h))) (wiped 16384 (length c.walk_text-walked.new.draft) c.args.draft.now (omega arith) (c.fill-4.ensures.after (λ y h. h))))

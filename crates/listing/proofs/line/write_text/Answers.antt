@@ -11,4 +11,4 @@ pub returns : goal.returns
 returns c =
     let at = c.args.at in
     let end = at + length c.args.text.now in
-    wrote_part refl c.requires (ap (λ (bs : List ℕ). put_mid at (end - at) c.args.out.now bs) c.fill.ensures)
+    wrote_part refl c.requires (ap (λ (bs : List ℕ). put_mid at (end - at) c.args.out.now bs) c.copy_from_slice.ensures.after)

@@ -1,40 +1,32 @@
--- `from`: on each way out, the number is the cell of the definition.
+-- `from`: below 0 there is no cell, and else the sum says which.
+use mathlib.Core.Path.{refl, ◌∙◌}
 use lib.IntN.{pos}
-use lib.Signed.{lt_z, le_z}
+use lib.Signed.{lt_z}
 use mir.Syntax.{w64}
 use mir.ValLaws.{to_z-of_z}
-use Rattle.machine.proofs.CellLaws.{read, low_base, high_base, low_operand, high_operand, sum, sum_read}
+use Rattle.machine.proofs.CellLaws.{read, low_base, low_operand, sum_cell, cell_in, cell_out}
 use Rattle.machine.proofs.frames.from.Goals as goal
+use Rattle.machine.proofs.frames.from.Goals.{then-base-lt0-via-then-base-lt0, then-base-lt0-via-else-base-lt0+then-a-lt0}
 
 pub returns-then-base-lt0 : goal.returns-then-base-lt0
-returns-then-base-lt0 c = low_base c.args.base c.args.a (read (λ z. lt_z z (pos 0)) c.args.base c.ranges.base c.if-base-lt0.true)
-
-pub returns-then-base-ge-END : goal.returns-then-base-ge-END
-returns-then-base-ge-END c = high_base c.args.base c.args.a (read (λ z. le_z (pos 4096) z) c.args.base c.ranges.base c.if-base-ge-END.true)
-
-pub returns-then-a-lt0 : goal.returns-then-a-lt0
-returns-then-a-lt0 c = low_operand c.args.base c.args.a (read (λ z. lt_z z (pos 0)) c.args.a c.ranges.a c.if-a-lt0.true)
-
-pub returns-then-a-ge-END : goal.returns-then-a-ge-END
-returns-then-a-ge-END c = high_operand c.args.base c.args.a (read (λ z. le_z (pos 4096) z) c.args.a c.ranges.a c.if-a-ge-END.true)
-
-pub overflow_add-result : goal.overflow_add-result
-overflow_add-result c =
+returns-then-base-lt0 c =
     let b = c.args.base in
     let a = c.args.a in
-    let s = sum b a (read (λ z. lt_z z (pos 0)) b c.ranges.base c.if-base-lt0.false) (read (λ z. le_z (pos 4096) z) b c.ranges.base c.if-base-ge-END.false) (read (λ z. lt_z z (pos 0)) a c.ranges.a c.if-a-lt0.false) (read (λ z. le_z (pos 4096) z) a c.ranges.a c.if-a-ge-END.false) in
-    rw (to_z-of_z w64 b c.ranges.base, to_z-of_z w64 a c.ranges.a) s.fits
+    elim c.then-base-lt0.branch [
+      | then-base-lt0-via-then-base-lt0 w ↦ (low_base b a (read (λ z. lt_z z (pos 0)) b c.ranges.base w.if-base-lt0.true), refl)
+      | then-base-lt0-via-else-base-lt0+then-a-lt0 w ↦ (low_operand b a (read (λ z. lt_z z (pos 0)) a c.ranges.a w.if-a-lt0.true), refl)
+    ]
 
-pub overflow_cast-result : goal.overflow_cast-result
-overflow_cast-result c =
+pub returns-then-i-ge-CELLS : goal.returns-then-i-ge-CELLS
+returns-then-i-ge-CELLS c =
     let b = c.args.base in
     let a = c.args.a in
-    let s = sum b a (read (λ z. lt_z z (pos 0)) b c.ranges.base c.if-base-lt0.false) (read (λ z. le_z (pos 4096) z) b c.ranges.base c.if-base-ge-END.false) (read (λ z. lt_z z (pos 0)) a c.ranges.a c.if-a-lt0.false) (read (λ z. le_z (pos 4096) z) a c.ranges.a c.if-a-ge-END.false) in
-    rw (sum_read b a c.ranges.base c.ranges.a s) (s.sign, s.range)
+    let h = rw (to_z-of_z w64 b c.ranges.base, to_z-of_z w64 a c.ranges.a) at c.if-i-ge-CELLS.true in
+    (sum_cell b a (read (λ z. lt_z z (pos 0)) b c.ranges.base c.if-base-lt0.false) (read (λ z. lt_z z (pos 0)) a c.ranges.a c.if-a-lt0.false) ∙ cell_out h, refl)
 
 pub returns : goal.returns
 returns c =
     let b = c.args.base in
     let a = c.args.a in
-    let s = sum b a (read (λ z. lt_z z (pos 0)) b c.ranges.base c.if-base-lt0.false) (read (λ z. le_z (pos 4096) z) b c.ranges.base c.if-base-ge-END.false) (read (λ z. lt_z z (pos 0)) a c.ranges.a c.if-a-lt0.false) (read (λ z. le_z (pos 4096) z) a c.ranges.a c.if-a-ge-END.false) in
-    rw (sum_read b a c.ranges.base c.ranges.a s) s.cell
+    let h = rw (to_z-of_z w64 b c.ranges.base, to_z-of_z w64 a c.ranges.a) at c.if-i-ge-CELLS.false in
+    rw (to_z-of_z w64 b c.ranges.base, to_z-of_z w64 a c.ranges.a) (sum_cell b a (read (λ z. lt_z z (pos 0)) b c.ranges.base c.if-base-lt0.false) (read (λ z. lt_z z (pos 0)) a c.ranges.a c.if-a-lt0.false) ∙ cell_in h, h)

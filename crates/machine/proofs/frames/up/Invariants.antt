@@ -1,10 +1,8 @@
--- `up`: what is left to climb from the base reached is what was to climb from the first. The measure is the levels left.
+-- `up`: what is left to climb from the base reached is what was to climb from the first.
 use mathlib.Core.Path.{◌≡◌}
+use Prim.Native.Nat.{◌-◌}
 use Rattle.machine.specs.Machine.{up}
 use Rattle.machine.proofs.frames.up.Given as goal
 
-abbrev pub invariant-loop-l : goal.invariant-loop-l
-invariant-loop-l l = up l.cells l.l l.b ≡ up l.cells l.level l.base
-
-abbrev pub decreases-loop-l : goal.decreases-loop-l
-decreases-loop-l l = l.l
+abbrev pub invariant-loop : goal.invariant-loop
+invariant-loop l = up l.cells (l.level - l.counter) l.reached ≡ up l.cells l.level l.base

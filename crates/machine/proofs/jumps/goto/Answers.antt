@@ -1,36 +1,20 @@
--- `goto`: outside the list, to place 0, or on.
-use mathlib.Core.Path.{sym, ap, ◌∙◌}
-use lib.IntN.{pos}
+-- `goto`: outside the list, or at its place.
+use mathlib.Core.Path.{◌∙◌}
 use mir.Syntax.{w64}
-use mir.Val.{SFits, of_z}
 use mir.ValLaws.{to_z-of_z}
-use borrow.Author.Tests.{not-true, not-false}
-use borrow.Author.Rules.{rules}
-use Rattle.numbers.proofs.Bits.{plain, from_bits}
-use Rattle.machine.specs.declared.steps.Does.TheVariants.{Next}
-use Rattle.machine.specs.Steps.{inside}
-use Rattle.machine.proofs.CellLaws.{whole}
-use Rattle.machine.proofs.StepLaws.{inside_sign, went_out, went_halt, went_on}
+use Rattle.std.proofs.lemmas.Result.{err_from_is_err_and}
+use Rattle.machine.proofs.StepLaws.{went_out, went_in}
 use Rattle.machine.proofs.jumps.goto.Goals as goal
 
-pub inside-requires : goal.inside-requires
-inside-requires c = tt
-
-pub returns-then-not-inside : goal.returns-then-not-inside
-returns-then-not-inside c = went_out c.args.places c.args.a c.args.f (sym (plain (λ z. inside c.args.places z) c.args.a c.ranges.a c.inside.ensures) ∙ not-true _ c.if-not-inside.true-raw)
-
-pub returns-then-a-eq0 : goal.returns-then-a-eq0
-returns-then-a-eq0 c =
-    let h : SFits w64 (pos 0) = search rules in
-    went_halt c.args.places c.args.a c.args.f (sym (plain (λ z. inside c.args.places z) c.args.a c.ranges.a c.inside.ensures) ∙ not-false _ c.if-not-inside.false-raw) (from_bits c.args.a (pos 0) c.ranges.a h c.if-a-eq0.true)
-
-pub overflow_cast-a : goal.overflow_cast-a
-overflow_cast-a c = rw (to_z-of_z w64 c.args.a c.ranges.a) (whole c.args.a c.ranges.a (inside_sign c.args.places c.args.a (sym (plain (λ z. inside c.args.places z) c.args.a c.ranges.a c.inside.ensures) ∙ not-false _ c.if-not-inside.false-raw)))
-
-pub jumped-requires : goal.jumped-requires
-jumped-requires c = tt
+pub returns-in_err-to : goal.returns-in_err-to
+returns-in_err-to c =
+    let a = c.args in
+    let p = err_from_is_err_and c.from_residual.result c.from_residual.ensures.1 in
+    let k = rw (to_z-of_z w64 a.a c.ranges.a) at c.in_err-to.ensures in
+    rw (p.1, p.2 ∙ k.1) (went_out a.places a.a a.f k.0)
 
 pub returns : goal.returns
 returns c =
-    let on = went_on c.args.places c.args.a c.args.f (sym (plain (λ z. inside c.args.places z) c.args.a c.ranges.a c.inside.ensures) ∙ not-false _ c.if-not-inside.false-raw) (λ e. c.if-a-eq0.false (ap (of_z w64) e)) in
-    ap Next c.jumped.ensures ∙ rw (to_z-of_z w64 c.args.a c.ranges.a) on
+    let a = c.args in
+    let k = rw (to_z-of_z w64 a.a c.ranges.a) at c.in_ok-to.ensures in
+    rw c.arrive.ensures (went_in a.places a.f k.0 k.1)

@@ -1,17 +1,10 @@
 -- `link`: the three stores are those of the definition.
 use native.Mathlib.Omega.{arith}
 use lib.IntN.{pos}
-use lib.ListN.{length-set}
 use mir.Syntax.{w64}
 use mir.Val.{SFits}
 use mir.ValLaws.{to_z-of_z}
 use Rattle.machine.proofs.jumps.link.Goals as goal
-
-pub bounds-cells-top-2 : goal.bounds-cells-top-2
-bounds-cells-top-2 c = simp length-set (omega (arith, c.requires))
-
-pub bounds-cells-top-3 : goal.bounds-cells-top-3
-bounds-cells-top-3 c = simp length-set (omega (arith, c.requires))
 
 pub returns : goal.returns
 returns c =

@@ -1,7 +1,7 @@
 -- `outer_base`: the cell is set, and set back.
 use native.Mathlib.Omega.{arith}
 use lib.IntN.{pos}
-use lib.ListN.{get_or, length-set}
+use lib.ListN.{get_or}
 use mir.Syntax.{w64}
 use mir.Val.{SFits}
 use mir.ValLaws.{to_z-of_z}
@@ -9,18 +9,9 @@ use borrow.Author.Rules.{rules}
 use Rattle.machine.proofs.CellLaws.{set_back}
 use Rattle.machine.proofs.jumps.outer_base.Goals as goal
 
-pub up-b-requires : goal.up-b-requires
-up-b-requires c = simp length-set c.requires.0
-
-pub bounds-cells-top-2 : goal.bounds-cells-top-2
-bounds-cells-top-2 c = simp length-set (omega (arith, c.requires))
-
-pub shape_of-cells : goal.shape_of-cells
-shape_of-cells c = simp length-set
-
 pub returns : goal.returns
 returns c =
     let cs = c.args.cells.now in
     let z = get_or cs c.args.top (pos 0) in
     let h : SFits w64 z = search rules in
-    (rw (to_z-of_z w64 c.args.base c.ranges.base) at c.up-b.ensures, rw (to_z-of_z w64 z h) (set_back cs c.args.top _ (pos 0) (omega (arith, c.requires))))
+    (rw (to_z-of_z w64 c.args.base c.ranges.base) at c.up-outer.ensures, rw (to_z-of_z w64 z h) (set_back cs c.args.top _ (pos 0) (omega (arith, c.requires, c.told-cells))))

@@ -1,20 +1,26 @@
 -- `write`: the value on top is handed on.
-use Prim.Native.Nat.{◌-◌}
+use mathlib.Core.Path.{◌∙◌}
 use lib.IntN.{pos}
 use lib.ListN.{get_or}
 use mir.Syntax.{w64}
 use mir.Val.{SFits}
 use mir.ValLaws.{to_z-of_z}
 use borrow.Author.Rules.{rules}
-use Rattle.machine.proofs.CellLaws.{some_top}
+use Rattle.std.proofs.lemmas.Result.{err_from_is_err_and}
 use Rattle.machine.proofs.StepLaws.{write_none, write_on}
 use Rattle.machine.proofs.opr.write.Goals as goal
 
-pub returns-then-top-eq0 : goal.returns-then-top-eq0
-returns-then-top-eq0 c = λ code room. write_none code room c.args.f c.args.cells.now c.if-top-eq0.true
+pub returns-in_err-i : goal.returns-in_err-i
+returns-in_err-i c =
+    let a = c.args in
+    let p = err_from_is_err_and c.from_residual.result c.from_residual.ensures.1 in
+    let k = c.in_err-i.ensures in
+    λ code room. rw (p.1, p.2 ∙ k.1) (write_none code room a.f a.cells.now k.0)
 
 pub returns : goal.returns
 returns c =
-    let z = get_or c.args.cells.now (c.args.f.top - 1) (pos 0) in
+    let a = c.args in
+    let k = c.in_ok-i.ensures in
+    let z = get_or a.cells.now c.in_ok-i.i (pos 0) in
     let h : SFits w64 z = search rules in
-    λ code room. rw (to_z-of_z w64 z h) (write_on code room c.args.f c.args.cells.now c.requires.1.pc (some_top c.if-top-eq0.false))
+    λ code room. rw (to_z-of_z w64 z h, k.1) (write_on code room a.f a.cells.now c.requires.pc k.0)

@@ -7,8 +7,8 @@ use Rattle.machine.proofs.talk.exchange.Goals as goal
 
 pub read-requires : goal.read-requires
 read-requires c =
-    let k = rw c.in-Read.is at c.requires.3 in
-    (c.requires.0, c.requires.1, c.requires.2, k.0, k.1, c.requires.4)
+    let k = rw c.in-Read.is at c.requires.2 in
+    (c.requires.0, c.requires.1, k.0, k.1, c.requires.3)
 
 pub returns-in-Write : goal.returns-in-Write
 returns-in-Write c =

@@ -1,11 +1,6 @@
--- `read::read_code` meets its contract.
-use mathlib.Core.Path.{◌≡◌}
-use Prim.Native.Nat.{◌-◌, ◌≤◌}
-use lib.ListN.{length}
+-- `read::read_code` is safe: each place so far stands in the three lists.
+use Rattle.std.proofs.Common.{◌≤◌, length}
 use Rattle.protocol.proofs.read.read_code.Given as goal
 
-abbrev pub invariant-loop-at : goal.invariant-loop-at
-invariant-loop-at l = (l.at ≤ length l.word) × (l.n ≤ length l.kinds) × (length l.kinds ≡ length l.initial.kinds) × (length l.levels ≡ length l.initial.levels) × (length l.operands ≡ length l.initial.operands) × (length l.kinds ≤ length l.levels) × (length l.kinds ≤ length l.operands)
-
-abbrev pub decreases-loop-at : goal.decreases-loop-at
-decreases-loop-at l = length l.word - l.at
+abbrev pub invariant-loop-place : goal.invariant-loop-place
+invariant-loop-place l = (l.n ≤ length l.kinds) × (l.n ≤ length l.levels) × (l.n ≤ length l.operands)

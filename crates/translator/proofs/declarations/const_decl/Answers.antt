@@ -26,8 +26,8 @@ constant-requires c =
     let d = rows_head _ _ _ _ _ _ _ _ _ c.loop.invariant.1 c.loop-test.true c.requires.has_consts.list c.requires.has_consts.at in
     (const_numbers (record { stands = d.stands; named = d.named })).fits
 
-pub enter-requires-clause-declares : goal.enter-requires-clause-declares
-enter-requires-clause-declares c =
+pub enter-requires : goal.enter-requires
+enter-requires c =
     let d = rows_head _ _ _ _ _ _ _ _ _ c.loop.invariant.1 c.loop-test.true c.requires.has_consts.list c.requires.has_consts.at in
     const_declares c.constant.ensures c.loop.invariant.0.sound c.loop.invariant.0.scoped (record { stands = d.stands; named = d.named })
 

@@ -7,8 +7,8 @@ use Rattle.translator.proofs.declarations.heading.Goals as goal
 pub procedure-y-requires : goal.procedure-y-requires
 procedure-y-requires c = (head_numbers c.requires.has_heading.at).fits
 
-pub enter-requires-clause-declares : goal.enter-requires-clause-declares
-enter-requires-clause-declares c = proc_declares _ c.args.source.now.tree.now _ c.args.table.now c.args.i c.args.used c.args.frame c.procedure-y.ensures c.requires.can c.requires.has_heading
+pub enter-requires : goal.enter-requires
+enter-requires c = proc_declares _ c.args.source.now.tree.now _ c.args.table.now c.args.i c.args.used c.args.frame c.procedure-y.ensures c.requires.can c.requires.has_heading
 
 pub returns-in_err-u : goal.returns-in_err-u
 returns-in_err-u c = rw (passed c.from_residual.ensures.1) (heading_stop c.args.source.now.text.now c.args.source.now.tree.now c.args.table.now _ c.args.i c.args.used c.args.frame c.procedure-y.ensures c.in_err-u.ensures _)

@@ -9,8 +9,8 @@ use Rattle.translator.proofs.declarations.name_decl.Goals as goal
 pub variable-y-requires : goal.variable-y-requires
 variable-y-requires c = (name_in_lem c.requires.has_name.at).1
 
-pub enter-requires-clause-declares : goal.enter-requires-clause-declares
-enter-requires-clause-declares c = var_declares c.variable-y.ensures c.requires.can c.requires.has_name
+pub enter-requires : goal.enter-requires
+enter-requires c = var_declares c.variable-y.ensures c.requires.can c.requires.has_name
 
 pub returns-then-checked : goal.returns-then-checked
 returns-then-checked c = name_row _ (rows_in _ _ _) c.if-checked.true c.variable-y.ensures c.enter.ensures

@@ -1,16 +1,10 @@
-use Rattle.std.proofs.Common.{◌≡◌, List, ◌+◌, ◌≤◌, length, ℕ, ◌-◌, ◌*◌, ◌<◌}
-use Rattle.numbers.specs.Limits.{max_code, draft_places}
-use Rattle.lexer.specs.Tokens.{Name}
-use Rattle.tree.specs.Tree.{Const, Stmts, Procs}
-use Rattle.symbols.specs.Table.{rows_in, scope_at}
-use Rattle.translator.specs.Translate.{stas, body_code, procs_code}
-use Rattle.emission.specs.Draft.{Emits}
-use Rattle.emission.specs.Meets.{here_of, Ready}
-use Rattle.translator.specs.Blocks.{inside_code, end_code, Start, Means, ProcsAt, HasProcs, InsideAt, HasInside, BodyAt, HasBody}
+-- The proof of the cycle of calls of blocks and procedures. The measure is twice the numbers that are left from the node on, and the member's rank.
+use Prim.Native.Nat.{◌+◌, ◌*◌, ◌-◌}
+use lib.ListN.{length}
 use Rattle.translator.proofs.procedures.+inside_procedures.Given as goal
 
 abbrev pub decreases-inside : goal.decreases-inside
-decreases-inside l = ?
+decreases-inside l = 2 * (length l.source.now.tree.now - l.i) + 1
 
 abbrev pub decreases-procedures : goal.decreases-procedures
-decreases-procedures l = ?
+decreases-procedures l = 2 * (length l.source.now.tree.now - l.i)

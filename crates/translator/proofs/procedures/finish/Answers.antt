@@ -23,4 +23,4 @@ pub returns-in_err-q : goal.returns-in_err-q
 returns-in_err-q c = rw (passed c.from_residual-in_err-q.ensures.1) (body_stop _ _ c.in_ok-m.ensures c.requires.ready.most c.in_err-q.ensures _)
 
 pub returns : goal.returns
-returns c = body_made _ _ c.in_ok-m.ensures c.requires.ready.most c.in_ok-q.ensures c.emit-2.ensures
+returns c = body_made _ _ c.in_ok-m.ensures c.requires.ready.most c.in_ok-q.ensures c.emit_oper.ensures

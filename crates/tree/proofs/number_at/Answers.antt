@@ -1,6 +1,0 @@
--- The proof of `number_at`.
-use native.Mathlib.Omega.{arith}
-use Rattle.tree.proofs.number_at.Goals as goal
-
-pub overflow_cast-result : goal.overflow_cast-result
-overflow_cast-result c = omega (arith, c.shared_slice_known-1.given c.args.i)
