@@ -27,6 +27,15 @@ module _ (s xs : List ℕ) (k : ℕ) (w : List ℕ) (h : ℕ) (l : Legible s xs 
   pub name_differs : (hash xs k ≡ h → ⊥) → false ≡ eq_list (name_at s xs k) w
   name_differs d = hash_differs (name_at s xs k) w (hash xs k) h l.hashed q d
 
+-- one of two tests fails
+pub not_first : (a b v : Bool) → v ≡ false → false ≡ a → v ≡ (a && b)
+not_first true b v e f = absurd (cc f)
+not_first false b v e f = e
+
+pub not_second : (a b v : Bool) → v ≡ false → v ≡ b → v ≡ (a && b)
+not_second true b v e f = f
+not_second false b v e f = e
+
 -- two names that are compared
 pub name_compared : (s xs : List ℕ) (k : ℕ) (u w : List ℕ) (r : Bool) → u ≡ part s (offset xs k) (extent xs k) → r ≡ pointwise eqb u w → r ≡ eq_list (name_at s xs k) w
 unfolding name_at
