@@ -1,11 +1,10 @@
 -- `arguments::parse_exps` meets its contract.
-use mathlib.Core.Path.{refl, ap}
+use mathlib.Core.Path.{refl}
 use Prim.Native.Nat.{◌+◌, ◌*◌}
 use native.Mathlib.Omega.{arith}
 use Rattle.lexer.specs.Marks.{close_sign}
 use Rattle.lexer.specs.Stands.{left}
 use Rattle.tree.specs.Nodes.{exp_node}
-use Rattle.parser.specs.Answer.{node_of}
 use Rattle.parser.proofs.Answers.{grew, made, room_after, same_left, one_fewer, refuses, left_as}
 use Rattle.parser.proofs.Loops.{going_start, going_room, going_more, going_refused, going_end}
 use Rattle.parser.proofs.Commas.{member_more, member_refused, comma_stop, comma_turn, comma_end}

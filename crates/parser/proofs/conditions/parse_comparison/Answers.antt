@@ -1,9 +1,8 @@
 -- `conditions::parse_comparison` meets its contract.
-use mathlib.Core.Path.{refl, ap, ◌≡◌}
+use mathlib.Core.Path.{refl, ◌≡◌}
 use native.Mathlib.Omega.{arith}
 use Rattle.std.specs.Prelude.{Some, None}
 use Rattle.numbers.specs.declared.refusal.Refusal.TheVariants.{TokenMissing}
-use Rattle.parser.specs.Answer.{node_of}
 use Rattle.parser.proofs.Answers.{refused, grew, room_after, room_taken, one_fewer, left_as, refuses}
 use Rattle.parser.proofs.Conds.{compared_refused, compared_stop, compared_none, compared_second, compared_done}
 use Rattle.parser.proofs.conditions.parse_comparison.Goals as goal

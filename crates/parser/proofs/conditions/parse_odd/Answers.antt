@@ -1,7 +1,6 @@
 -- `conditions::parse_odd` meets its contract.
-use mathlib.Core.Path.{refl, ap}
+use mathlib.Core.Path.{refl}
 use native.Mathlib.Omega.{arith}
-use Rattle.parser.specs.Answer.{node_of}
 use Rattle.parser.proofs.Answers.{refused, grew, left_as, refuses}
 use Rattle.parser.proofs.Conds.{odds_refused, odds_done}
 use Rattle.parser.proofs.conditions.parse_odd.Goals as goal

@@ -1,8 +1,7 @@
 -- The proof of the cycle of calls of the readers of expressions. Each member's measure is eight times the tokens left, and its rank.
-use mathlib.Core.Path.{refl, ap}
+use mathlib.Core.Path.{refl}
 use native.Mathlib.Omega.{arith}
 use Rattle.lexer.specs.Marks.{close_sign}
-use Rattle.parser.specs.Answer.{node_of}
 use Rattle.parser.proofs.Answers.{refused, grew, room_after, moved, room_seen, same_left, room_taken, one_fewer, wanted_fewer, left_as, refuses}
 use Rattle.parser.proofs.Loops.{going_start, going_room, going_more, going_refused, going_end}
 use Rattle.parser.proofs.Seeing.{saw}

@@ -1,9 +1,8 @@
 -- `lists::parse_ids` meets its contract.
-use mathlib.Core.Path.{refl, ap}
+use mathlib.Core.Path.{refl}
 use Prim.Native.Nat.{◌+◌}
 use native.Mathlib.Omega.{arith}
 use Rattle.tree.specs.Nodes.{name_node}
-use Rattle.parser.specs.Answer.{node_of}
 use Rattle.parser.proofs.Answers.{refused, grew, made, room_after, room_at, same_left, one_fewer, refuses, left_as}
 use Rattle.parser.proofs.Loops.{going_start, going_room, going_more, going_refused, going_end}
 use Rattle.parser.proofs.Commas.{member_more, member_refused, comma_stop, comma_turn, comma_end, list_refused, list_ended}
