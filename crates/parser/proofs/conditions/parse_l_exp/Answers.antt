@@ -1,7 +1,6 @@
 -- `conditions::parse_l_exp` meets its contract.
 use native.Mathlib.Omega.{arith}
-use Rattle.parser.proofs.Exits.{left_as}
-use Rattle.parser.proofs.Answers.{refused, moved, room_seen, same_left, room_taken, one_fewer}
+use Rattle.parser.proofs.Answers.{refused, moved, room_seen, same_left, room_taken, one_fewer, left_as}
 use Rattle.parser.proofs.Conds.{cond_refused, cond_odd, cond_compared}
 use Rattle.parser.proofs.conditions.parse_l_exp.Goals as goal
 

@@ -1,6 +1,6 @@
 -- `lists::end_list` meets its contract.
-use Rattle.parser.proofs.Exits.{left_as}
 use Rattle.parser.proofs.Commas.{ends_refused, ends_node}
+use Rattle.parser.proofs.Answers.{left_as}
 use Rattle.parser.proofs.lists.end_list.Goals as goal
 
 pub returns-in_err-c : goal.returns-in_err-c

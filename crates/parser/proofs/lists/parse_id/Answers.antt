@@ -1,8 +1,7 @@
 -- `lists::parse_id` meets its contract.
 use native.Mathlib.Omega.{arith}
-use Rattle.parser.proofs.Exits.{left_as}
 use Rattle.parser.proofs.Seeing.{saw}
-use Rattle.parser.proofs.Answers.{refused, one_fewer}
+use Rattle.parser.proofs.Answers.{refused, one_fewer, left_as}
 use Rattle.parser.proofs.Required.{name_stop, name_other, name_there}
 use Rattle.parser.proofs.lists.parse_id.Goals as goal
 

@@ -1,9 +1,8 @@
 -- `lists::parse_integer` meets its contract.
 use native.Mathlib.Omega.{arith}
-use Rattle.parser.proofs.Exits.{left_as}
 use Rattle.parser.proofs.Seeing.{saw}
 use Rattle.parser.proofs.Leaves.{literal_of_lem, literal_pos}
-use Rattle.parser.proofs.Answers.{refused, one_fewer}
+use Rattle.parser.proofs.Answers.{refused, one_fewer, left_as}
 use Rattle.parser.proofs.Required.{number_stop, number_other, number_there}
 use Rattle.parser.proofs.lists.parse_integer.Goals as goal
 

@@ -2,9 +2,9 @@
 use mathlib.Core.Path.{sym, ap, ◌∙◌}
 use borrow.Author.Tests.{eqb-true, eqb-false}
 use Rattle.lexer.specs.Kinds.{kind_of}
-use Rattle.parser.proofs.Exits.{left_as}
 use Rattle.parser.proofs.Tokens.{of_kind, kind_of_token}
 use Rattle.parser.proofs.Seeing.{want_refused, want_took, want_other}
+use Rattle.parser.proofs.Answers.{left_as}
 use Rattle.parser.proofs.see.want.Goals as goal
 
 pub returns-in_err-c : goal.returns-in_err-c
