@@ -8,6 +8,7 @@ use crate::drafts::draft_text;
 use crate::places::hand_out;
 use numbers::limits::{DRAFT_PLACES, MAX_CODE, TABLE_PLACES, TREE_PLACES};
 use numbers::refusal::Refusal;
+use numbers::room::clear;
 use translator::Translated;
 
 // "done"
@@ -70,8 +71,8 @@ pub fn compile(
     };
     let compiled = answer(draft_text(text, tree, table, draft));
     hand_out(draft, compiled.length, kinds, levels, operands);
-    tree.fill(0);
-    table.fill(0);
-    draft.fill(0);
+    clear(tree, 0);
+    clear(table, 0);
+    clear(draft, 0);
     compiled
 }

@@ -6,6 +6,7 @@ ghost use Rattle.pcode.specs.Code.{Instr, nil, code_for};
 ghost use Rattle.engine.specs.Handing.{Drafts};
 
 use numbers::limits::MAX_CODE;
+use numbers::room::clear;
 use pcode::Kind;
 
 // The numbers of a drafted instruction.
@@ -29,7 +30,7 @@ pub fn hand_out(draft: &[u32], n: usize, kinds: &mut [i8], levels: &mut [u16], o
         levels[k] = draft[i + 1] as u16;
         operands[k] = (draft[i + 2] as u64 + HALF * draft[i + 3] as u64) as i64;
     }
-    kinds[n..MAX_CODE].fill(Kind::Nil as i8);
-    levels[n..MAX_CODE].fill(0);
-    operands[n..MAX_CODE].fill(0);
+    clear(&mut kinds[n..MAX_CODE], Kind::Nil as i8);
+    clear(&mut levels[n..MAX_CODE], 0);
+    clear(&mut operands[n..MAX_CODE], 0);
 }

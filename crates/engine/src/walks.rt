@@ -12,6 +12,7 @@ use crate::entries::DONE;
 use machine::Ended;
 use numbers::limits::{DRAFT_PLACES, MAX_ROWS, TABLE_PLACES, TREE_PLACES};
 use numbers::refusal::Refusal;
+use numbers::room::clear;
 use walk::progress::Progress;
 use walk::{holds_procedure, walk_tree};
 
@@ -91,11 +92,11 @@ pub fn walk(
     let Some(draft) = draft.first_chunk_mut::<DRAFT_PLACES>() else {
         return refused(Refusal::RoomTooSmall);
     };
-    vars[..MAX_ROWS].fill(0);
+    clear(&mut vars[..MAX_ROWS], 0);
     let walked = walk_text(text, input, budget, out, vars, tree, table, draft);
     let ended = walked.unwrap_or_else(refused);
-    tree.fill(0);
-    table.fill(0);
-    draft.fill(0);
+    clear(tree, 0);
+    clear(table, 0);
+    clear(draft, 0);
     ended
 }

@@ -63,4 +63,4 @@ returns c =
     let d = rw (sym e) at t.stands in
     roomy c.args.text.now code work (sym c.holds_code.ensures ∙ c.if-not-holds_code.false) (all_held work c.in-Some.ensures.cases.enough c.in-Some-first_chunk_mut.ensures.cases.enough c.in-Some-first_chunk_mut-2.ensures.cases.enough)
     (leaves (compile c.args.text.now) code work c.draft_text.result t c.answer-compiled.ensures (c.hand_out.ensures.kinds_after l d) (c.hand_out.ensures.levels_after l d) (c.hand_out.ensures.operands_after l d)
-    (wiped 98400 (length c.draft_text.new.tree) c.args.tree.now (omega (arith, c.draft_text.array_long)) (c.fill.ensures.after (λ y h. h))) (wiped 6144 (length c.draft_text.new.table) c.args.table.now (omega (arith, c.draft_text.array_long2)) (c.fill-2.ensures.after (λ y h. h))) (wiped 16384 (length c.draft_text.new.draft) c.args.draft.now (omega (arith, c.draft_text.array_long3)) (c.fill-3.ensures.after (λ y h. h))))
+    (wiped 98400 (length c.draft_text.new.tree) c.args.tree.now (omega (arith, c.draft_text.array_long)) c.clear.ensures) (wiped 6144 (length c.draft_text.new.table) c.args.table.now (omega (arith, c.draft_text.array_long2)) c.clear-2.ensures) (wiped 16384 (length c.draft_text.new.draft) c.args.draft.now (omega (arith, c.draft_text.array_long3)) c.clear-3.ensures))

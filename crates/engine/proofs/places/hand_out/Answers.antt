@@ -44,7 +44,7 @@ returns c =
     let i = c.loop-k.invariant in
     let n = c.args.n in
     record {
-      kinds_after = (λ l d. handed (λ p. p.kind) _ d c.requires.n_le_max_code (hand_all (λ i. kind_no i.op) i.kinds_put (omega arith) l d) (filled_part n 4096 (negsuc 0) c.loop-k.kinds (omega arith) (omega arith) (c.fill.ensures.after (λ y h. h)) refl));
-      levels_after = (λ l d. handed (λ p. p.level) _ d c.requires.n_le_max_code (hand_all (λ i. i.level) i.levels_put (omega arith) l d) (filled_part n 4096 0 c.loop-k.levels (omega arith) (omega arith) (c.fill-2.ensures.after (λ y h. h)) refl));
-      operands_after = (λ l d. handed (λ p. p.operand) _ d c.requires.n_le_max_code (hand_all (λ i. i.operand) i.operands_put (omega arith) l d) (filled_part n 4096 (pos 0) c.loop-k.operands (omega arith) (omega arith) (c.fill-3.ensures.after (λ y h. h)) refl));
+      kinds_after = (λ l d. handed (λ p. p.kind) _ d c.requires.n_le_max_code (hand_all (λ i. kind_no i.op) i.kinds_put (omega arith) l d) (filled_part n 4096 (negsuc 0) c.loop-k.kinds (omega arith) (omega arith) c.clear.ensures refl));
+      levels_after = (λ l d. handed (λ p. p.level) _ d c.requires.n_le_max_code (hand_all (λ i. i.level) i.levels_put (omega arith) l d) (filled_part n 4096 0 c.loop-k.levels (omega arith) (omega arith) c.clear-2.ensures refl));
+      operands_after = (λ l d. handed (λ p. p.operand) _ d c.requires.n_le_max_code (hand_all (λ i. i.operand) i.operands_put (omega arith) l d) (filled_part n 4096 (pos 0) c.loop-k.operands (omega arith) (omega arith) c.clear-3.ensures refl));
     }

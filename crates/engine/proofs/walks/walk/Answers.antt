@@ -34,7 +34,7 @@ returns-in_default-first_chunk_mut-2 c =
     (whole 98400 c.in-Some.ensures.cases.same) (whole 6144 c.in-Some-first_chunk_mut.ensures.cases.same) refl
 
 pub walk_text-walked-requires : goal.walk_text-walked-requires
-walk_text-walked-requires c = zeros_stay c.args.vars.now (filled_front 512 (pos 0) c.args.vars.now c.if-vars-lt-MAX_ROWS.false (c.fill.ensures.after (λ y h. h)) refl)
+walk_text-walked-requires c = zeros_stay c.args.vars.now (filled_front 512 (pos 0) c.args.vars.now c.if-vars-lt-MAX_ROWS.false c.clear.ensures refl)
 
 pub returns : goal.returns
 returns c =
@@ -43,5 +43,5 @@ returns c =
     let e = ended_is c.walk_text-walked.result c.unwrap_or_else-ended.ensures in
     roomy_walk c.args.text.now c.args.input.now c.args.budget c.args.out.now vars work c.if-vars-lt-MAX_ROWS.false
     (all_held work c.in-Some.ensures.cases.enough c.in-Some-first_chunk_mut.ensures.cases.enough c.in-Some-first_chunk_mut-2.ensures.cases.enough)
-    (all_left _ c.args.budget c.args.out.now vars work {r = c.unwrap_or_else-ended.result} (filled_front 512 (pos 0) vars c.if-vars-lt-MAX_ROWS.false (c.fill.ensures.after (λ y h. h)) refl) (rw e c.walk_text-walked.ensures)
-    (wiped 98400 (length c.walk_text-walked.new.tree) c.args.tree.now (omega arith) (c.fill-2.ensures.after (λ y h. h))) (wiped 6144 (length c.walk_text-walked.new.table) c.args.table.now (omega arith) (c.fill-3.ensures.after (λ y h. h))) (wiped 16384 (length c.walk_text-walked.new.draft) c.args.draft.now (omega arith) (c.fill-4.ensures.after (λ y h. h))))
+    (all_left _ c.args.budget c.args.out.now vars work {r = c.unwrap_or_else-ended.result} (filled_front 512 (pos 0) vars c.if-vars-lt-MAX_ROWS.false c.clear.ensures refl) (rw e c.walk_text-walked.ensures)
+    (wiped 98400 (length c.walk_text-walked.new.tree) c.args.tree.now (omega arith) c.clear-2.ensures) (wiped 6144 (length c.walk_text-walked.new.table) c.args.table.now (omega arith) c.clear-3.ensures) (wiped 16384 (length c.walk_text-walked.new.draft) c.args.draft.now (omega arith) c.clear-4.ensures))
