@@ -25,23 +25,22 @@ fn single(b: u8) -> Token
     }
 }
 
-// The sign at i, where the byte is b and the next is d: one of two bytes, or else one of one. The next byte is asked for
-// first, since few signs are of two.
+// The sign at i, where the byte is b and the next is d: one of two bytes, or else one of one. That of one is found first,
+// by a table, and the next byte is asked for before this one, since few signs are of two.
 pub fn sign(i: usize, b: u8, d: u8) -> Lexed
     requires { i + 2 < 2 ^ 64 }
     ensures { result ≡ sign_of i b d }
 {
+    let one = Lexed {
+        token: single(b),
+        next: i + 1,
+    };
     let token = match (d, b) {
         (b'=', b'<') => Token::Le,
         (b'=', b'>') => Token::Ge,
         (b'=', b':') => Token::EqSign,
         (b'>', b'<') => Token::Ne,
-        _ => {
-            return Lexed {
-                token: single(b),
-                next: i + 1,
-            };
-        }
+        _ => return one,
     };
     Lexed { token, next: i + 2 }
 }

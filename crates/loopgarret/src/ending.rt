@@ -1,147 +1,105 @@
-// The end of a session: what is said of its answer, the comparison with a walk, and the status.
-use crate::calls::walk_once;
+// Running, walking and both: the session, what is said of its answer, the comparison with a walk, and the status.
+use crate::calls::{run_once, walk_once};
 use crate::say;
 use crate::say::UNUSABLE;
-use crate::session::{Stage, State, session};
-use check::same;
-use desk::page::clip;
-use desk::words::Asked;
+use crate::session::{State, Trouble, session};
+use crate::sheet::Sheet;
 use machine::Ended;
+use numbers::refusal::Refusal;
+use pcode::Code;
 
-// By its code, on its tree, or first the one and then the other.
-#[derive(Clone, Copy)]
-pub enum Way {
-    Run,
-    Walk,
-    Both,
+// Runs the sheet's code.
+pub fn run(rt: &HostRuntime, sheet: Sheet<'_>, code: Code<'_>) -> u8 {
+    let budget = sheet.asked.budget;
+    play(rt, sheet, |entries: &[u8], out: &mut [u8]| {
+        run_once(code, entries, budget, out)
+    })
 }
 
-// The number of a sheet that is not walked.
-const PROCEDURE_IN_TREE: u8 = 25;
-
-// Whether the first n bytes of an output are those of another.
-fn starts_alike(one: &[u8], other: &[u8], n: usize) -> bool {
-    let a = clip(n, one);
-    let b = clip(n, other);
-    same(&one[..a], &other[..b])
+// Works the sheet out on its tree.
+pub fn walk(rt: &HostRuntime, sheet: Sheet<'_>) -> u8 {
+    let text = sheet.text;
+    let budget = sheet.asked.budget;
+    play(rt, sheet, |entries: &[u8], out: &mut [u8]| {
+        walk_once(text, entries, budget, out)
+    })
 }
 
-// Whether a run and a walk ended alike: in number, lines, steps and every byte.
-fn agree(ran: Ended, walked: Ended, out: &[u8], other: &[u8]) -> bool {
-    if walked.number != ran.number {
-        return false;
+// Runs the sheet's code, and then walks it with the same entries.
+pub fn both(rt: &HostRuntime, sheet: Sheet<'_>, code: Code<'_>) -> u8 {
+    let budget = sheet.asked.budget;
+    let mut entries = io::large_buffer();
+    let mut out = io::large_buffer();
+    let ran = session(
+        rt,
+        |entries: &[u8], out: &mut [u8]| run_once(code, entries, budget, out),
+        &mut entries,
+        &mut out,
+    );
+    match ran {
+        Ok(last) => {
+            let told = tell(rt, sheet, last.ended);
+            let compared = compare(rt, sheet, last, &entries, &out);
+            if compared == 0 { told } else { compared }
+        }
+        Err(trouble) => stuck(rt, trouble),
     }
-    if walked.out_len != ran.out_len {
-        return false;
-    }
-    if walked.lines != ran.lines {
-        return false;
-    }
-    if walked.steps != ran.steps {
-        return false;
-    }
-    starts_alike(out, other, ran.out_len)
 }
 
-// Walks a sheet that was run, with the same entries, says whether the two agree, and gives the status.
-fn compare(
-    rt: &HostRuntime,
-    budget: u32,
-    name: &[u8],
-    text: &[u8],
-    entries: &[u8],
-    used: usize,
-    ran: Ended,
-    out: &[u8],
-) -> u8 {
-    let mut other = io::large_buffer();
-    let n = clip(used, entries);
-    let walked = walk_once(text, &entries[..n], budget, &mut other);
-    if walked.number == PROCEDURE_IN_TREE {
-        return say::refusal(rt, name, walked.number);
+// A session by that step, what is said of its answer, and the status.
+fn play<F: Fn(&[u8], &mut [u8]) -> Ended>(rt: &HostRuntime, sheet: Sheet<'_>, step: F) -> u8
+    requires { F.IsAlwaysCallable step }
+{
+    let mut entries = io::large_buffer();
+    let mut out = io::large_buffer();
+    match session(rt, step, &mut entries, &mut out) {
+        Ok(last) => tell(rt, sheet, last.ended),
+        Err(trouble) => stuck(rt, trouble),
     }
-    if agree(ran, walked, out, &other) {
-        say::of_sheet(rt, name, b": run and walk agree\n");
-        return 0;
-    }
-    say::of_sheet(rt, name, b": run and walk differ\n");
-    UNUSABLE
 }
 
 // What is said of an answer, and the status.
-fn tell(rt: &HostRuntime, asked: Asked, name: &[u8], ended: Ended) -> u8 {
-    if asked.steps {
-        say::counts(rt, name, ended.lines, ended.steps);
+fn tell(rt: &HostRuntime, sheet: Sheet<'_>, ended: Ended) -> u8 {
+    if sheet.asked.steps {
+        say::counts(rt, sheet.name, ended.lines, ended.steps);
     }
     if ended.number == 0 {
         return 0;
     }
-    say::refusal(rt, name, ended.number)
+    say::refusal(rt, sheet.name, ended.number)
 }
 
 // What is said where there is no answer, and the status.
-fn stuck(rt: &HostRuntime, stage: Stage) -> u8 {
-    match stage {
-        Stage::Unwritten(reason) => say::unwritten(rt, reason),
-        Stage::Unread(reason) => say::failed(rt, b"loopgarret: standard input", reason),
-        _ => say::complain(rt, b"loopgarret: more than 65536 bytes of entries\n"),
+fn stuck(rt: &HostRuntime, trouble: Trouble) -> u8 {
+    match trouble {
+        Trouble::Unwritten(reason) => say::unwritten(rt, reason),
+        Trouble::Unread(reason) => say::failed(rt, b"loopgarret: standard input", reason),
+        Trouble::Full => say::complain(rt, b"loopgarret: more than 65536 bytes of entries\n"),
     }
 }
 
-// The end of a session.
-fn finish(
-    rt: &HostRuntime,
-    way: Way,
-    asked: Asked,
-    name: &[u8],
-    text: &[u8],
-    last: State,
-    entries: &[u8],
-    out: &[u8],
-) -> u8 {
-    let stage = last.stage;
-    let ended = last.ended;
-    let Stage::Done = stage else {
-        return stuck(rt, stage);
-    };
-    let told = tell(rt, asked, name, ended);
-    let Way::Both = way else {
-        return told;
-    };
-    let compared = compare(rt, asked.budget, name, text, entries, last.used, ended, out);
-    if compared != 0 {
-        return compared;
+// Walks a sheet that was run, with the same entries, says whether the two agree, and gives the status.
+fn compare(rt: &HostRuntime, sheet: Sheet<'_>, last: State, entries: &[u8], out: &[u8]) -> u8 {
+    let mut other = io::large_buffer();
+    let entries = &entries[..last.used.min(entries.len())];
+    let walked = walk_once(sheet.text, entries, sheet.asked.budget, &mut other);
+    if walked.number == Refusal::ProcedureInTree.number() {
+        return say::refusal(rt, sheet.name, walked.number);
     }
-    told
+    if agree(last.ended, walked, out, &other) {
+        say::of_sheet(rt, sheet.name, b": run and walk agree\n");
+        return 0;
+    }
+    say::of_sheet(rt, sheet.name, b": run and walk differ\n");
+    UNUSABLE
 }
 
-// Runs or walks the sheet.
-pub fn play(
-    rt: &HostRuntime,
-    way: Way,
-    asked: Asked,
-    name: &[u8],
-    text: &[u8],
-    kinds: &[i8],
-    levels: &[u16],
-    operands: &[i64],
-) -> u8 {
-    let mut entries = io::large_buffer();
-    let mut out = io::large_buffer();
-    let last = session(
-        rt,
-        is_walk(way),
-        asked.budget,
-        text,
-        kinds,
-        levels,
-        operands,
-        &mut entries,
-        &mut out,
-    );
-    finish(rt, way, asked, name, text, last, &entries, &out)
-}
-
-fn is_walk(way: Way) -> bool {
-    if let Way::Walk = way { true } else { false }
+// Whether a run and a walk ended alike: in number, lines, steps and every byte.
+fn agree(ran: Ended, walked: Ended, out: &[u8], other: &[u8]) -> bool {
+    let n = ran.out_len;
+    walked.number == ran.number
+        && walked.out_len == n
+        && walked.lines == ran.lines
+        && walked.steps == ran.steps
+        && &out[..n.min(out.len())] == &other[..n.min(other.len())]
 }

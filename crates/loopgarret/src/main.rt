@@ -12,68 +12,56 @@ mod say;
 mod session;
 mod sheet;
 
-use crate::say::UNUSABLE;
-use desk::words::{Asked, Command, Next, command_of};
+use desk::words::{Asked, Command, Misused, command_of};
 use std::env::FillError;
 use std::process::ExitCode;
 use std::rt::Env;
 
-// The words from the second on, or Unknown where one cannot be taken.
-fn read_words(rt: &HostRuntime) -> Next {
+// The words from the second on; where one cannot be taken, that is said, and the status is the error.
+fn read_words(rt: &HostRuntime) -> Result<Asked, u8> {
     let mut asked = Asked::new();
     for i in 2..usize::MAX {
         let mut word = io::buffer();
-        let n = match rt.arg(i, &mut word) {
-            Ok(n) => n,
+        match rt.arg(i, &mut word) {
+            Ok(n) => take_word(rt, &mut asked, i, &word[..n])?,
             Err(FillError::NotPresent) => break,
-            Err(FillError::TooLong) => return say::too_long(rt),
-        };
-        let Next::Asked(next) = take_word(rt, asked, i, &word[..n]) else {
-            return Next::Unknown;
-        };
-        asked = next;
+            Err(FillError::TooLong) => return Err(say::too_long(rt)),
+        }
     }
     if asked.wants {
-        return say::no_number(rt);
+        return Err(say::no_number(rt));
     }
-    Next::Asked(asked)
+    Ok(asked)
 }
 
 // One word; what cannot be taken is named.
-fn take_word(rt: &HostRuntime, asked: Asked, i: usize, word: &[u8]) -> Next {
-    match asked.with(i, word) {
-        Next::Asked(next) => Next::Asked(next),
-        Next::NoNumber => say::no_number(rt),
-        Next::Unknown => say::not_understood(rt, word),
+fn take_word(rt: &HostRuntime, asked: &mut Asked, i: usize, word: &[u8]) -> Result<(), u8> {
+    match asked.take(i, word) {
+        Ok(()) => Ok(()),
+        Err(Misused::NoNumber) => Err(say::no_number(rt)),
+        Err(Misused::Unknown) => Err(say::not_understood(rt, word)),
     }
-}
-
-// The table of numbers, for which no sheet is wanted.
-fn numbers(rt: &HostRuntime, place: usize) -> u8 {
-    if place != 0 {
-        return say::sheet_too_many(rt);
-    }
-    say::table(rt)
 }
 
 // What a command does with the words behind it.
 fn obey(rt: &HostRuntime, command: Command) -> u8 {
-    let Next::Asked(asked) = read_words(rt) else {
-        return UNUSABLE;
+    let asked = match read_words(rt) {
+        Ok(asked) => asked,
+        Err(status) => return status,
     };
     if asked.help {
         return help::of(rt, command);
     }
-    let place = asked.sheet;
-    if let Command::Numbers = command {
-        return numbers(rt, place);
+    match (command, asked.sheet) {
+        (Command::Numbers, None) => say::table(rt),
+        (Command::Numbers, Some(_)) => say::sheet_too_many(rt),
+        (_, None) => say::no_sheet(rt),
+        (_, Some(place)) => {
+            let mut name = io::buffer();
+            let n = rt.arg(place, &mut name).unwrap_or(0);
+            sheet::open(rt, command, asked, &name[..n])
+        }
     }
-    if place == 0 {
-        return say::no_sheet(rt);
-    }
-    let mut name = io::buffer();
-    let n = rt.arg(place, &mut name).unwrap_or(0);
-    sheet::open(rt, command, asked, &name[..n])
 }
 
 // What the first word asks for.

@@ -6,33 +6,43 @@
 // before the entry is typed: it is what the next run writes there, once the entry is taken. A refused read writes no
 // prompt, so after a bad entry, or the end of the entries, the prompt shown is the one difference from a run with all
 // entries at once; it is what the Rust shows.
-ghost use Rattle.io.specs.Counts.{IsPrefixLen};
-
-use crate::calls::once;
 use crate::say::{complain, written};
 use desk::entries::{wants_line, whole_lines};
 use desk::files::read_more;
-use desk::page::{clip, least};
 use machine::Ended;
-use std::io::{Error, IsTerminal, Result};
+use std::io::{Error, IsTerminal, Result as Written};
 
 // Bytes of output, as those of entries: io::large_buffer has them.
 const OUTPUT_ROOM: usize = 65536;
 
-const PROMPT_LENGTH: usize = 18;
+const PROMPT: [u8; 18] = *b"<== Please input: ";
 
 // Turns of the session: a turn that is not the last reads a byte at least.
 const TURNS: usize = 65538;
 
-// Where the session stands, or how it ended.
-#[derive(Clone, Copy)]
-pub enum Stage {
+// Where the session stands.
+#[derive(Clone, Copy, PartialEq, Eq)]
+enum Stage {
     // more entries may come
     Open,
     // no more entries will come
     Over,
     // the answer is there
     Done,
+}
+
+// The session so far: bytes of entries, bytes of the screen that are shown, and the last answer.
+#[derive(Clone, Copy)]
+pub struct State {
+    stage: Stage,
+    pub used: usize,
+    shown: usize,
+    pub ended: Ended,
+}
+
+// Why a session has no answer.
+#[derive(Clone, Copy)]
+pub enum Trouble {
     // standard output cannot be written
     Unwritten(Error),
     // standard input cannot be read
@@ -41,30 +51,18 @@ pub enum Stage {
     Full,
 }
 
-// The session so far: bytes of entries, bytes of the screen that are shown, and the last answer.
-#[derive(Clone, Copy)]
-pub struct State {
-    pub stage: Stage,
-    pub used: usize,
-    pub shown: usize,
-    pub ended: Ended,
-}
-
-// How many bytes of the entries the engine is lent: whole lines, and all of them once no more can come.
-fn lent(is_over: bool, entries: &[u8], used: usize) -> usize
-    ensures { IsPrefixLen result entries.now }
-{
-    let n = clip(used, entries);
-    if is_over {
-        return n;
+// The entries that the engine is lent: whole lines, and all of them once no more can come.
+fn lent(stage: Stage, entries: &[u8]) -> &[u8] {
+    if stage == Stage::Over {
+        return entries;
     }
-    clip(whole_lines(&entries[..n]), entries)
+    &entries[..whole_lines(entries)]
 }
 
 // Shows what is new of the output, of which so many bytes are shown.
-fn show_new(rt: &HostRuntime, out: &[u8], end: usize, shown: usize) -> Result<()> {
-    let to = least(end, out.len());
-    let from = least(shown, to);
+fn show_new(rt: &HostRuntime, out: &[u8], end: usize, shown: usize) -> Written<()> {
+    let to = end.min(out.len());
+    let from = shown.min(to);
     written(rt, &out[from..to])
 }
 
@@ -76,8 +74,8 @@ fn prompted(rt: &HostRuntime, end: usize, shown: usize) -> usize {
     if !rt.stdin().is_terminal() {
         return end;
     }
-    let _ = written(rt, b"<== Please input: ");
-    least(end, OUTPUT_ROOM) + PROMPT_LENGTH
+    let _ = written(rt, &PROMPT);
+    end.min(OUTPUT_ROOM) + PROMPT.len()
 }
 
 // At a terminal, the end of the entries leaves the line of the prompt open.
@@ -88,156 +86,87 @@ fn end_line(rt: &HostRuntime) {
 }
 
 // Reads more entries.
-fn read_on(rt: &HostRuntime, state: State, entries: &mut [u8]) -> State {
-    let ended = state.ended;
-    let used = state.used;
-    let shown = prompted(rt, ended.out_len, state.shown);
-    if entries.len() <= used {
-        return State {
-            stage: Stage::Full,
-            used,
+fn read_on(rt: &HostRuntime, state: State, entries: &mut [u8]) -> Result<State, Trouble> {
+    let shown = prompted(rt, state.ended.out_len, state.shown);
+    if entries.len() <= state.used {
+        return Err(Trouble::Full);
+    }
+    match read_more(&mut rt.stdin(), entries, state.used) {
+        Ok(0) => {
+            end_line(rt);
+            Ok(State {
+                stage: Stage::Over,
+                shown,
+                ..state
+            })
+        }
+        Ok(n) => Ok(State {
+            used: state.used + n,
             shown,
-            ended,
-        };
-    }
-    let got = read_more(&mut rt.stdin(), entries, used);
-    if let Some(reason) = got.failure {
-        return State {
-            stage: Stage::Unread(reason),
-            used,
-            shown,
-            ended,
-        };
-    }
-    let n = got.bytes;
-    if n == 0 {
-        end_line(rt);
-        return State {
-            stage: Stage::Over,
-            used,
-            shown,
-            ended,
-        };
-    }
-    let used = used + n;
-    State {
-        stage: Stage::Open,
-        used,
-        shown,
-        ended,
-    }
-}
-
-// Whether no more entries will come.
-fn is_over(stage: Stage) -> bool {
-    if let Stage::Over = stage { true } else { false }
-}
-
-// Whether the session goes on.
-fn goes_on(stage: Stage) -> bool {
-    match stage {
-        Stage::Open => true,
-        Stage::Over => true,
-        _ => false,
+            ..state
+        }),
+        Err(reason) => Err(Trouble::Unread(reason)),
     }
 }
 
 // One turn: the sheet with the entries so far, what is new of its output, and where it wants a line, more entries.
-fn turn(
+fn turn<F: Fn(&[u8], &mut [u8]) -> Ended>(
     rt: &HostRuntime,
-    is_walk: bool,
-    budget: u32,
-    text: &[u8],
-    kinds: &[i8],
-    levels: &[u16],
-    operands: &[i64],
+    step: &F,
     before: State,
     entries: &mut [u8],
     out: &mut [u8],
-) -> State {
-    let stage = before.stage;
-    let shown = before.shown;
-    let used = before.used;
-    let is_last = is_over(stage);
-    let n = lent(is_last, entries, used);
-    let ended = once(
-        is_walk,
-        budget,
-        text,
-        kinds,
-        levels,
-        operands,
-        &entries[..n],
-        out,
-    );
-    if let Err(reason) = show_new(rt, out, ended.out_len, shown) {
-        return State {
-            stage: Stage::Unwritten(reason),
-            used,
-            shown,
-            ended,
-        };
+) -> Result<State, Trouble>
+    requires { F.IsAlwaysCallable step.now }
+{
+    let taken = lent(before.stage, &entries[..before.used.min(entries.len())]);
+    let ended = step(taken, out);
+    if let Err(reason) = show_new(rt, out, ended.out_len, before.shown) {
+        return Err(Trouble::Unwritten(reason));
     }
-    if is_last {
-        return State {
+    let now = State { ended, ..before };
+    if before.stage == Stage::Over {
+        return Ok(State {
             stage: Stage::Done,
-            used,
-            shown,
-            ended,
-        };
+            ..now
+        });
     }
-    if !wants_line(ended.number, ended.lines, &entries[..n]) {
-        return State {
+    if !wants_line(ended.number, ended.lines, taken) {
+        return Ok(State {
             stage: Stage::Done,
-            used: n,
-            shown,
-            ended,
-        };
+            used: taken.len(),
+            ..now
+        });
     }
-    read_on(
-        rt,
-        State {
-            stage,
-            used,
-            shown,
-            ended,
-        },
-        entries,
-    )
+    read_on(rt, now, entries)
 }
 
-// The whole session. It has more turns than its room for entries allows.
-pub fn session(
+// The whole session: the step is the sheet run or walked with entries, into the output. It has more turns than its room
+// for entries allows.
+pub fn session<F: Fn(&[u8], &mut [u8]) -> Ended>(
     rt: &HostRuntime,
-    is_walk: bool,
-    budget: u32,
-    text: &[u8],
-    kinds: &[i8],
-    levels: &[u16],
-    operands: &[i64],
+    step: F,
     entries: &mut [u8],
     out: &mut [u8],
-) -> State {
-    let ended = Ended {
-        number: 0,
-        out_len: 0,
-        lines: 0,
-        steps: 0,
-    };
+) -> Result<State, Trouble>
+    requires { F.IsAlwaysCallable step }
+{
     let mut now = State {
         stage: Stage::Open,
         used: 0,
         shown: 0,
-        ended,
+        ended: Ended {
+            number: 0,
+            out_len: 0,
+            lines: 0,
+            steps: 0,
+        },
     };
     for _ in 0..TURNS {
-        let stage = now.stage;
-        if !goes_on(stage) {
-            return now;
+        now = turn(rt, &step, now, entries, out)?;
+        if now.stage == Stage::Done {
+            return Ok(now);
         }
-        now = turn(
-            rt, is_walk, budget, text, kinds, levels, operands, now, entries, out,
-        );
     }
-    now
+    Err(Trouble::Full)
 }

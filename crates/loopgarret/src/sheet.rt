@@ -1,81 +1,68 @@
 // What is done with a sheet: it is read, compiled, and then listed, accepted, run or walked.
 use crate::calls::compiled;
-use crate::ending::{Way, play};
+use crate::ending::{both, run, walk};
 use crate::say;
 use desk::files::read_file;
-use desk::listing::{clip_code, put_listing};
-use desk::page::clip;
-use desk::rooms;
+use desk::page::Page;
 use desk::words::{Asked, Command};
+use numbers::limits::{MAX_CODE, MAX_SOURCE};
+use pcode::Code;
 
-// Reads the sheet.
+// A source, and one byte more, so that a longer one is seen and refused with 1.
+const SOURCE: usize = MAX_SOURCE + 1;
+
+// The longest listing: 4,096 lines of at most 40 bytes.
+const LISTING: usize = 163840;
+
+// A sheet, and what is asked for with it.
+#[derive(Clone, Copy)]
+pub struct Sheet<'a> {
+    pub asked: Asked,
+    pub name: &'a [u8],
+    pub text: &'a [u8],
+}
+
+// Reads the sheet of that name, and carries the command out.
 pub fn open(rt: &HostRuntime, command: Command, asked: Asked, name: &[u8]) -> u8 {
-    let mut text = rooms::source();
-    let got = read_file(rt, name, &mut text);
-    if let Some(reason) = got.failure {
-        return say::failed(rt, name, reason);
+    let mut room = [0; SOURCE];
+    match read_file(rt, name, &mut room) {
+        Ok(text) => compile(rt, command, Sheet { asked, name, text }),
+        Err(reason) => say::failed(rt, name, reason),
     }
-    read(rt, command, asked, name, &text, got.bytes)
 }
 
-// The sheet is there, of so many bytes; its code is made.
-fn read(
-    rt: &HostRuntime,
-    command: Command,
-    asked: Asked,
-    name: &[u8],
-    text: &[u8],
-    bytes: usize,
-) -> u8 {
-    let n = clip(bytes, text);
-    let text = &text[..n];
-    let mut kinds = rooms::kinds();
-    let mut levels = rooms::levels();
-    let mut operands = rooms::operands();
-    let made = compiled(text, &mut kinds, &mut levels, &mut operands);
+// The sheet is there; its code is made.
+fn compile(rt: &HostRuntime, command: Command, sheet: Sheet<'_>) -> u8 {
+    let mut kinds = [0; MAX_CODE];
+    let mut levels = [0; MAX_CODE];
+    let mut operands = [0; MAX_CODE];
+    let made = compiled(sheet.text, &mut kinds, &mut levels, &mut operands);
     if made.number != 0 {
-        return say::refusal(rt, name, made.number);
+        return say::refusal(rt, sheet.name, made.number);
     }
-    carry_out(
-        rt,
-        command,
-        asked,
-        name,
-        text,
-        made.length,
-        &kinds,
-        &levels,
-        &operands,
-    )
+    let code = Code {
+        kinds: &kinds[..made.length.min(MAX_CODE)],
+        levels: &levels,
+        operands: &operands,
+    };
+    carry_out(rt, command, sheet, code)
 }
 
-// The sheet is accepted, and this is its code, of so many instructions. A code list is as long as the shortest of its
-// three parts, so cutting one is enough.
-fn carry_out(
-    rt: &HostRuntime,
-    command: Command,
-    asked: Asked,
-    name: &[u8],
-    text: &[u8],
-    n: usize,
-    kinds: &[i8],
-    levels: &[u16],
-    operands: &[i64],
-) -> u8 {
-    let n = clip_code(n, kinds);
-    let kinds = &kinds[..n];
+// The sheet is accepted, and this is its code: as long as the shortest of its three parts.
+fn carry_out(rt: &HostRuntime, command: Command, sheet: Sheet<'_>, code: Code<'_>) -> u8 {
     match command {
-        Command::Check => say::accepted(rt, name, n),
-        Command::Compile => list(rt, kinds, levels, operands),
-        Command::Walk => play(rt, Way::Walk, asked, name, text, kinds, levels, operands),
-        Command::Both => play(rt, Way::Both, asked, name, text, kinds, levels, operands),
-        _ => play(rt, Way::Run, asked, name, text, kinds, levels, operands),
+        Command::Check => say::accepted(rt, sheet.name, code.len()),
+        Command::Compile => list(rt, code),
+        Command::Walk => walk(rt, sheet),
+        Command::Both => both(rt, sheet, code),
+        _ => run(rt, sheet, code),
     }
 }
 
 // Prints the instructions.
-fn list(rt: &HostRuntime, kinds: &[i8], levels: &[u16], operands: &[i64]) -> u8 {
-    let mut page = rooms::listing();
-    let n = put_listing(&mut page, 0, kinds, levels, operands);
-    say::answer_page(rt, &page, n)
+fn list(rt: &HostRuntime, code: Code<'_>) -> u8 {
+    let mut room = [0; LISTING];
+    let mut page = Page::new(&mut room);
+    page.put_listing(code);
+    say::answer(rt, page.text())
 }

@@ -1,11 +1,15 @@
 -- What a step of the code means: the step of the definition, and the cells that it leaves.
-use Rattle.std.specs.Prelude.{◌≡◌, Bool, true, false, List, ℕ, suc, ◌+◌, ◌≤◌, ◌<◌, ℤ, pos, negsuc, ltb, eqb, length, set, Result, Ok, Err}
+use Rattle.std.specs.Prelude.{◌≡◌, Bool, true, false, List, [], ◌∷◌, ℕ, zero, suc, ◌+◌, ◌≤◌, ◌<◌, ℤ, pos, negsuc, ltb, eqb, length, set, Result, Ok, Err}
+use Rattle.std.proofs.Math.Option.{some}
+use Rattle.std.proofs.Common.{arith as linear}
+use Rattle.std.proofs.Math.ListN.{get_elem?}
 use Rattle.numbers.specs.declared.refusal.Refusal.{Refusal}
 use Rattle.numbers.specs.declared.refusal.Refusal.TheVariants.{PlaceOutside}
 use Rattle.numbers.specs.Refusals.{number_of}
 use Rattle.numbers.specs.Limits.{max_code, max_cells}
 use Rattle.numbers.specs.Screen.{written, newline}
 use Rattle.numbers.specs.Stack.{after_write}
+use Rattle.pcode.specs.Operators.{Oper, oper_no, operators, oper_of, oper_back}
 use Rattle.pcode.specs.Code.{Instr, Code, instrs_in}
 use Rattle.machine.specs.declared.frames.Frame.{Frame}
 use Rattle.machine.specs.declared.steps.Does.{Does}
@@ -71,3 +75,13 @@ went places (pos t) f =
 -- the cells with the three links of a call
 abbrev pub linked : List ℤ → ℕ → ℤ → ℤ → ℤ → List ℤ
 linked cs t b s p = set (set (set cs t b) (t + 1) s) (t + 2) p
+
+-- an operator's number is a place of their list: 0 to 16
+pub oper_few : (o : Oper) → oper_no o ≤ 16
+unfolding oper_of operators
+oper_few o = omega (linear, within operators (oper_no o) (oper_back o))
+  where
+    within : {A : Type 0} (l : List A) (n : ℕ) {x : A} → get_elem? l n ≡ some x → n < length l
+    within [] n e = let z : ◌≡◌ {A = ℕ} 0 1 = cc in omega linear
+    within (y ∷ l) zero e = omega linear
+    within (y ∷ l) (suc n) e = omega (linear, within l n e)

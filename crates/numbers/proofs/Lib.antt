@@ -7,3 +7,4 @@ pub mod Decimals
 pub mod Readings
 pub mod Screens
 pub mod Putting
+pub mod Filling

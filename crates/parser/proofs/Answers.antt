@@ -1,19 +1,20 @@
 -- What a caller learns of a callee's answer, and how a refusal goes up.
-use Rattle.std.specs.Prelude.{Result, Ok, Err, Option}
-use mathlib.Core.Path.{◌≡◌}
+use Rattle.std.specs.Prelude.{Result, Ok, Err}
+use Rattle.std.specs.Result.{IsErr, IsErrAnd}
+use Rattle.std.proofs.lemmas.Result.{err_from_is_err_and}
+use mathlib.Core.Path.{◌≡◌, ap, ◌∙◌}
 use mathlib.Core.List.{List}
 use Prim.Native.Nat.{ℕ, zero, suc, ◌+◌, ◌*◌, ◌≤◌}
 use native.Mathlib.Omega.{arith}
 use lib.ListN.{length}
 use Rattle.numbers.specs.Limits.{tree_share}
 use Rattle.numbers.specs.declared.refusal.Refusal.{Refusal}
-use Rattle.numbers.specs.Refusals.{number_of}
 use Rattle.lexer.specs.Cursor.{Cursor as Place, Ans, refuse, Reader}
 use Rattle.lexer.specs.Marks.{Mark}
 use Rattle.lexer.specs.Stands.{Stands, taken, past, left}
 use Rattle.lexer.specs.declared.cursor.Cursor.{Cursor}
 use Rattle.tree.specs.Layout.{Nodes}
-use Rattle.parser.specs.Answer.{Answer, Node, Nothing, Refused, node_of, try_of}
+use Rattle.parser.specs.Answer.{Answer, Node, Nothing, Refused}
 use Rattle.parser.specs.Meets.{Room, Grew, Safe, Made, Means, Meets}
 use Rattle.parser.specs.See.{Seen, Sees, Wants}
 use Rattle.parser.proofs.Seeing.{saw, took}
@@ -54,15 +55,15 @@ module _ {A B : Type 0} {yes : A → B} {no : B → Type 0} {nodes : A → Nodes
           room = omega (arith, p.room, grew.room);
         }
 
--- a reader that was refused: so is its definition
-module _ {A B : Type 0} {yes : A → B} {no : B → Type 0} {nodes : A → Nodes} {src xs : List ℕ} {u : ℕ} {ys : List ℕ} {f : ℕ → Reader B} {m spare debt : ℕ} {c : Cursor} where
-  pub node_refused : {r : Result (ℕ × Cursor) Refusal} {w : Refusal} → Meets yes no nodes src xs u ys f m spare debt c (node_of r) → r ≡ Err w → Refuses src f m c (number_of w)
-  unfolding Means
-  node_refused h e = rw e at h.means
+-- what the exit of a `?` returns: the refusal that came
+pub left_as : {T : Type 0} {r : Result T Refusal} {w : Refusal} → IsErr r × IsErrAnd r (λ y. y ≡ w) → r ≡ Err w
+left_as {r = r} h = let p = err_from_is_err_and r h.1 in p.1 ∙ ap Err p.2
 
-  pub try_refused : {r : Result (Option ℕ × Cursor) Refusal} {w : Refusal} → Meets yes no nodes src xs u ys f m spare debt c (try_of r) → r ≡ Err w → Refuses src f m c (number_of w)
-  unfolding Means
-  try_refused h e = rw e at h.means
+-- a reader that was refused: so is its definition
+pub refuses : {A B : Type 0} {yes : A → B} {no : B → Type 0} {nodes : A → Nodes} {src xs : List ℕ} {u : ℕ} {ys : List ℕ} {f : ℕ → Reader B} {m spare debt : ℕ} {c : Cursor} {w : ℕ}
+    → Meets yes no nodes src xs u ys f m spare debt c (Refused w) → Refuses src f m c w
+unfolding Means
+refuses h = h.means
 
 -- a reader that goes on as another, from where that one's cursor stands
 pub record Moved {B : Type 0} (src : List ℕ) (f : ℕ → Reader B) (m : ℕ) (c : Cursor) (a : Ans B) : Type 0 where

@@ -15,7 +15,7 @@ use Rattle.numbers.specs.Lent.{onto, filled, filling}
 use Rattle.numbers.specs.Bytes.{is_ascii, every}
 use Rattle.numbers.specs.Panel.{source_too_long, source_not_ascii}
 use Rattle.numbers.specs.declared.refusal.Refusal.{Refusal}
-use Rattle.numbers.specs.declared.refusal.Refusal.TheVariants.{SourceTooLong, SourceNotAscii, BodyFailedQuietly, RoomTooSmall}
+use Rattle.numbers.specs.declared.refusal.Refusal.TheVariants.{SourceTooLong, SourceNotAscii, BodyFailedQuietly}
 use Rattle.numbers.specs.Refusals.{number_of}
 use Rattle.lexer.specs.Cursor.{got}
 use Rattle.lexer.specs.Stands.{start, start_stands, left}
@@ -106,9 +106,6 @@ module _ (src : List ℕ) where
     pub reads_refused : {w : Refusal} → Refuses src (λ n. program src n) (8 * left start) start (number_of w) → Reads src xs (ys ++ drop tree_places xs) (Err w)
     unfolding Concludes parse parsed left
     reads_refused {w} h = whole (Err w) (read short (ascii src bytes) ∙ ap parsed (h fuel (omega arith) (record { seen = 0; at = 0 }) (start_stands src)))
-
-  pub parses_small : {xs : List ℕ} → length xs < tree_places → Parses src xs xs (Err RoomTooSmall)
-  parses_small h = record { small = λ l. (refl, refl); large = λ l. absurd (omega arith); beyond = refl }
 
   -- what was read, once the room behind it is zero
   pub parses : {xs ys zs : List ℕ} {u : ℕ} {r : Parsed} → tree_places ≤ length xs → length ys ≡ length xs → Reads src xs ys r → u ≡ end_of r → zs ≡ onto ys (filling u tree_places 0 ys) → Parses src xs zs r

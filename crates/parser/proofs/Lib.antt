@@ -13,7 +13,6 @@ pub mod Sequences
 pub mod Declared
 pub mod Conds
 pub mod Tries
-pub mod Exits
 pub mod Flows
 pub mod Procs
 pub mod Bodies

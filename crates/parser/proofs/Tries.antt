@@ -56,7 +56,8 @@ module _ {A B : Type 0} {yes : A → B} {no : B → Type 0} {nodes : A → Nodes
   went None h n l k s = let b = h.means n l k s in record { value = b.value; at = b.at; is = b.is; stands = b.stands; wrote = b.wrote }
   went (Some e) h n l k s = let b = h.means n l k s in record { value = yes b.value; at = b.at; is = b.is; stands = b.stands; wrote = wrote_kept u (omega arith) b.wrote }
 
--- the definition f yields nothing from where the cursor c stands; the cursor d stands after that, and what was used stands as it was
+-- the definition f yields nothing from where the cursor c stands; the cursor d stands after that, and what was used
+-- stands as it was
 abbrev pub Quietly : {A B : Type 0} → (A → B) → (B → Type 0) → (A → Nodes) → (src xs : List ℕ) → ℕ → List ℕ → (ℕ → Reader B) → ℕ → (c d : Cursor) → Type 0
 Quietly y z nodes src xs u ys f m c d = (n : ℕ) → m ≤ n → (k : Place) → Stands src c k → Quiet y z nodes src xs u ys d (f n k)
 

@@ -4,7 +4,8 @@ use Rattle.numbers.specs.declared.refusal.Refusal.{Refusal}
 use Rattle.numbers.specs.Refusals.{number_of}
 use Rattle.lexer.specs.declared.cursor.Cursor.{Cursor}
 
--- a node, or several, that end in the tree at that place; nothing, where a statement fails quietly; or the refusal of that number
+-- a node, or several, that end in the tree at that place; nothing, where a statement fails quietly; or the refusal of
+-- that number
 pub data Answer : Type 0 where
   Node : ℕ → Cursor → Answer
   Nothing : Cursor → Answer

@@ -1,4 +1,5 @@
--- What `parse` promises: by 01's order 24, 1 and 2, and then what the parser's definition answers, with the tree's numbers from the first place on and zero behind them.
+-- What `parse` promises: by 01's order 24, 1 and 2, and then what the parser's definition answers, with the tree's
+-- numbers from the first place on and zero behind them.
 use Rattle.std.specs.Prelude.{◌≡◌, refl, Result, Ok, Err, Bool, true, false, List, [], ◌++◌, ℕ, ◌-◌, ◌≤◌, ◌<◌, ltb, length, take, drop, replicate}
 use Rattle.std.specs.Result.{result_unwrap_or}
 use Rattle.std.proofs.Common.{sym, ap, ◌∙◌, append_assoc, ltb-true, ltb-false}
@@ -42,7 +43,8 @@ pub record Reads (src xs ys : List ℕ) (r : Parsed) : Type 0 where
   pub within : end_of r ≤ tree_places
   pub beyond : drop tree_places ys ≡ drop tree_places xs
 
--- with too little room nothing changes; otherwise the room that is asked for holds the tree's numbers, and zero behind them
+-- with too little room nothing changes; otherwise the room that is asked for holds the tree's numbers, and zero behind
+-- them
 pub record Parses (src xs ys : List ℕ) (r : Parsed) : Type 0 where
   pub small : length xs < tree_places → (r ≡ Err RoomTooSmall) × (ys ≡ xs)
   pub large : tree_places ≤ length xs → Answered r (reading src) × (ys ≡ onto xs (filled tree_places 0 (numbers_of (reading src))))

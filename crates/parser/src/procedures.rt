@@ -36,8 +36,8 @@ pub fn parse_proc_head(
     Ok((end, g))
 }
 
-// `procedure` name `(` [names] `)` `;` block {`;` procedure}: the test for one construct too many comes first. After a body that yields nothing the later
-// procedures are still read, and the whole is nothing.
+// `procedure` name `(` [names] `)` `;` block {`;` procedure}: the test for one construct too many comes first. After a
+// body that yields nothing the later procedures are still read, and the whole is nothing.
 #[cycle(parse_block_head_parse_inner_parse_later_parse_proc)]
 pub fn parse_proc(
     text: &[u8],

@@ -15,7 +15,8 @@ use numbers::limits::MAX_OPEN;
 use numbers::refusal::Refusal;
 use tree::Kind;
 
-// A statement place: the test for one construct too many comes before the token is judged, and a token that starts no statement yields nothing.
+// A statement place: the test for one construct too many comes before the token is judged, and a token that starts no
+// statement yields nothing.
 #[cycle(parse_body_parse_else_part_parse_if_parse_statement_parse_statements_parse_while_read_on)]
 pub fn parse_statement(
     text: &[u8],
@@ -65,8 +66,8 @@ pub fn parse_while(
     Ok((Some(end), e))
 }
 
-// cond `then` st [`else` st], after `if`: the else part is read whatever the then part yields. Nothing in the then part makes the whole nothing; nothing in
-// the else part is absorbed.
+// cond `then` st [`else` st], after `if`: the else part is read whatever the then part yields. Nothing in the then part
+// makes the whole nothing; nothing in the else part is absorbed.
 #[cycle(parse_body_parse_else_part_parse_if_parse_statement_parse_statements_parse_while_read_on)]
 pub fn parse_if(
     text: &[u8],
@@ -170,7 +171,8 @@ pub fn parse_statements(
     }
 }
 
-// {`;` statement} after a member that yields nothing: the list is read on, and the whole is nothing. The cursor after it.
+// {`;` statement} after a member that yields nothing: the list is read on, and the whole is nothing. It answers the
+// cursor after the list.
 #[cycle(parse_body_parse_else_part_parse_if_parse_statement_parse_statements_parse_while_read_on)]
 pub fn read_on(
     text: &[u8],

@@ -8,7 +8,6 @@ use lib.ListN.{length, get_or}
 use Rattle.std.specs.Prelude.{Result, Ok, Err}
 use Rattle.numbers.specs.Limits.{row_share}
 use Rattle.numbers.specs.declared.refusal.Refusal.{Refusal}
-use Rattle.numbers.specs.Refusals.{number_of}
 use Rattle.numbers.specs.Stack.{links}
 use Rattle.lexer.specs.Tokens.{Name}
 use Rattle.tree.specs.Tree.{Const, Procs}
@@ -16,13 +15,13 @@ use Rattle.tree.specs.Layout.{Node, Nodes, list_kind, member}
 use Rattle.tree.specs.Nodes.{list_nodes, name_node, consts_node, names_node, procs_node}
 use Rattle.tree.specs.Reading.{Two, two_at, next_at, branch_at, After}
 use Rattle.tree.specs.Parts.{list_count}
-use Rattle.symbols.specs.Symbols.{Scope, Row, Rows, refuse_rows, const_rows, var_rows}
+use Rattle.symbols.specs.Symbols.{Scope, Row, Rows, const_rows, var_rows}
 use Rattle.symbols.specs.Table.{rows_in, scope_at, Kept}
 use Rattle.symbols.specs.Chains.{scope_kept}
 use Rattle.symbols.specs.Kept.{rows_length, scoped_kept, kept_on}
 use Rattle.translator.specs.declared.procedures.Place.{Place}
 use Rattle.translator.specs.Translate.{Done, with_rows, procs_code}
-use Rattle.translator.specs.Rows.{Can, Rowed, Declared, rowed, unrowed, ConstsAt, NamesAt}
+use Rattle.translator.specs.Rows.{Can, Rowed, Declared, unrowed, ConstsAt, NamesAt}
 use Rattle.translator.specs.Blocks.{inside_code, Start, Means, through, not, ProcsAt, InsideAt, HasInside}
 use Rattle.translator.proofs.Rowing.{rowed_at, names_length}
 

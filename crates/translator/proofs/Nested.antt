@@ -44,9 +44,6 @@ use Rattle.translator.proofs.Rowing.{head_numbers}
 use Rattle.translator.proofs.Blocks.{within, so_far, head_refused, no_place, inside_refused, end_refused, end_made}
 use Rattle.translator.proofs.Insides.{rest_at, procs_at, procs_fit}
 
-pub procs_fits : {s tr : List ℕ} {i : ℕ} {t : Procs} → ProcsAt s tr i t → i + 4 ≤ length tr
-procs_fits {s} {tr} {i} {t} a = (procs_head_lem tr i t a.stands).fits
-
 -- no procedures
 pub none_here : {s tr xs ds : List ℕ} {i : ℕ} (p : Place) → get_or tr i 0 ≡ node_no no_procedures_kind → Start s xs ds p → (sc : Scope) → (t : Procs) → ProcsAt s tr i t → Means (procs_code t p.frame.level sc p.frame.address (rows_in s xs p.used) p.n) s xs p.used ds p.n xs ds (Ok p)
 unfolding procs_code drafted

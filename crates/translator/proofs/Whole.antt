@@ -5,7 +5,7 @@ use Prim.Native.Nat.{ℕ, ◌+◌, ◌*◌, ◌≤◌}
 use native.Mathlib.Omega.{arith}
 use lib.IntN.{pos}
 use lib.ListN.{length, take, set, length-append}
-use Rattle.std.specs.Prelude.{Result, Ok, Err}
+use Rattle.std.specs.Prelude.{Ok, Err}
 use Rattle.numbers.specs.Limits.{max_code, table_places, draft_places, draft_share}
 use Rattle.numbers.specs.Stack.{links}
 use Rattle.numbers.specs.declared.refusal.Refusal.{Refusal}

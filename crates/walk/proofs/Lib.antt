@@ -1,5 +1,4 @@
 pub mod Steps
-pub mod Operators
 pub mod Cells
 pub mod Lookup
 pub mod Exps

@@ -4,7 +4,8 @@ use Rattle.numbers.specs.declared.refusal.Refusal.{Refusal}
 use Rattle.numbers.specs.Refusals.{number_of}
 use Rattle.numbers.specs.Lent.{onto}
 use Rattle.lexer.specs.Tokens.{Name}
-use Rattle.tree.specs.Tree.{Exp}
+use Rattle.tree.specs.Tree.{Exp, Stmt}
+use Rattle.tree.specs.Standing.{StmtAt}
 use Rattle.symbols.specs.Symbols.{Row}
 use Rattle.walk.specs.declared.expressions.Env.{Env}
 use Rattle.walk.specs.declared.expressions.Clock.{Clock}
@@ -38,6 +39,11 @@ pub record HasState (e : Env) (input : List ℕ) (vars : List ℤ) (out : List �
 pub data Ends (e : Env) (input : List ℕ) (lv : List ℤ) (lo : List ℕ) (vars : List ℤ) (out : List ℕ) (p : Progress) (o : Result (Unit {0})) (q : Progress) : Answer (Unit {0}) Refusal → Type 0 where
   done : {u : Unit {0}} (w : State) → o ≡ ok tt q.clock.left w → Holds e input lv lo vars out q w → q.clock.left ≤ p.clock.left → Ends e input lv lo vars out p o q (Ok u)
   refused : {k : Refusal} (w : State) → o ≡ stop (number_of k) q.clock.left w → Holds e input lv lo vars out q w → q.clock.left ≤ p.clock.left → Ends e input lv lo vars out p o q (Err k)
+
+-- the same of the statement at i, which f walks in the output's room
+abbrev pub StmtEnds : Env → ℕ → (ℕ → Stmt → Walk (Unit {0})) → List ℕ → List ℤ → List ℤ → List ℕ → List ℕ → Progress → Progress → Answer (Unit {0}) Refusal → Type 0
+StmtEnds e i f input vars vars' out out' p q r =
+    (t : Stmt) → StmtAt e.text.now e.tree.now i t → (lv : List ℤ) (lo : List ℕ) (w : State) → Holds e input lv lo vars out p w → Ends e input lv lo vars' out' p (f (length lo) t p.clock.left w) q r
 
 -- one step, from every state that p shows
 abbrev pub Steps : Progress → (State → State) → Progress → Answer (Unit {0}) Refusal → Type 0

@@ -1,11 +1,12 @@
 -- What the walk's functions ask and promise: how the lent lists hold a state, and how a walk's answer is met.
-use Rattle.std.specs.Prelude.{◌≡◌, List, ℕ, ◌≤◌, ◌<◌, ℤ, length, Result as Answer, Ok, Err}
+use Rattle.std.specs.Prelude.{◌≡◌, List, ℕ, ◌+◌, ◌≤◌, ◌<◌, ℤ, length, Result as Answer, Ok, Err}
 use Rattle.numbers.specs.Limits.{greatest}
 use Rattle.numbers.specs.Lent.{onto}
 use Rattle.numbers.specs.declared.refusal.Refusal.{Refusal}
 use Rattle.numbers.specs.Refusals.{number_of}
 use Rattle.numbers.specs.Arithmetic.{Arith, arith, Compare, compared, negated}
 use Rattle.tree.specs.Tree.{Exp}
+use Rattle.tree.specs.Standing.{ExpAt}
 use Rattle.symbols.specs.Symbols.{Row}
 use Rattle.symbols.specs.Table.{field, value_of, rows_in, Sound, Seen}
 use Rattle.walk.specs.declared.expressions.Env.{Env}
@@ -65,3 +66,7 @@ pub record Halted (c : Clock) (w : State) (o : Result ℤ) (k : Refusal) (d : Cl
 pub data Gives (n : ℕ) (c : Clock) (w : State) (o : Result ℤ) (d : Clock) : Answer ℤ Refusal → Type 0 where
   gives : {z : ℤ} → Went n c w o z d → Gives n c w o d (Ok z)
   halts : {k : Refusal} → Halted c w o k d → Gives n c w o d (Err k)
+
+-- the same of the expression at i, which f walks
+abbrev pub ExpGives : Env → ℕ → (Exp → Walk ℤ) → List ℤ → Clock → Clock → Answer ℤ Refusal → Type 0
+ExpGives e i f vars c d r = (t : Exp) → ExpAt e.text.now e.tree.now i t → (w : State) → Shows vars e c w → Gives (c.top + 1) c w (f t c.left w) d r

@@ -11,7 +11,7 @@ ghost use Rattle.tree.specs.Standing.{ExpAt, HasExp, CondAt, HasCond};
 ghost use Rattle.symbols.specs.Symbols.{main_scope, find};
 ghost use Rattle.symbols.specs.Table.{part};
 ghost use Rattle.walk.specs.Walk.{State, push, result as ended, value_in, walk_exp, walk_cond};
-ghost use Rattle.walk.specs.Meets.{Known, rows_of, Cells, Shows, Gives, neg_walk, link_walk, rel_walk};
+ghost use Rattle.walk.specs.Meets.{Known, rows_of, Cells, Shows, Gives, ExpGives, neg_walk, link_walk, rel_walk};
 
 use numbers::arithmetic;
 use numbers::arithmetic::{Arith, Compare};
@@ -138,7 +138,7 @@ fn comparison(op: u32) -> Compare
 pub fn exp(env: &Env<'_>, i: usize, vars: &[i64], clock: &mut Clock) -> Result<i64, Refusal>
     requires known { Known env.now vars.now }
     requires has_exp { HasExp env.now.text.now env.now.tree.now i }
-    ensures { (t : Exp) → ExpAt env.now.text.now env.now.tree.now i t → (w : State) → Shows vars.now env.now clock.old w → Gives (clock.old.top + 1) clock.old w (walk_exp (rows_of env.now) t clock.old.left w) clock.new result }
+    ensures { ExpGives env.now i (walk_exp (rows_of env.now)) vars.now clock.old clock.new result }
 {
     match tree::kind_at(env.tree, i) {
         Kind::Chain => chain(env, i, vars, clock),
@@ -154,7 +154,7 @@ pub fn exp(env: &Env<'_>, i: usize, vars: &[i64], clock: &mut Clock) -> Result<i
 fn negated(env: &Env<'_>, i: usize, vars: &[i64], clock: &mut Clock) -> Result<i64, Refusal>
     requires known { Known env.now vars.now }
     requires has_exp { HasExp env.now.text.now env.now.tree.now i }
-    ensures { (t : Exp) → ExpAt env.now.text.now env.now.tree.now i t → (w : State) → Shows vars.now env.now clock.old w → Gives (clock.old.top + 1) clock.old w (neg_walk (rows_of env.now) t clock.old.left w) clock.new result }
+    ensures { ExpGives env.now i (neg_walk (rows_of env.now)) vars.now clock.old clock.new result }
 {
     let z = exp(env, i, vars, clock)?;
     settle(arithmetic::negate(z), clock.top, clock)
@@ -178,7 +178,7 @@ fn chain(env: &Env<'_>, i: usize, vars: &[i64], clock: &mut Clock) -> Result<i64
     requires known { Known env.now vars.now }
     requires has_exp { HasExp env.now.text.now env.now.tree.now i }
     requires has_kind { get_or env.now.tree.now i 0 ≡ node_no chain_kind }
-    ensures { (t : Exp) → ExpAt env.now.text.now env.now.tree.now i t → (w : State) → Shows vars.now env.now clock.old w → Gives (clock.old.top + 1) clock.old w (walk_exp (rows_of env.now) t clock.old.left w) clock.new result }
+    ensures { ExpGives env.now i (walk_exp (rows_of env.now)) vars.now clock.old clock.new result }
 {
     let count = tree::number_at(env.tree, i + 2);
     let mut x = exp(env, i + 4, vars, clock)?;

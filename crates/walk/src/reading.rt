@@ -1,12 +1,11 @@
 // `read`: a line of the input for each name.
 ghost use Rattle.std.specs.Prelude.{◌≡◌, List, ℕ, ◌+◌, ◌≤◌, ◌<◌, ℤ, length, get_or};
 ghost use Rattle.lexer.specs.Tokens.{Name};
-ghost use Rattle.tree.specs.Tree.{Stmt};
 ghost use Rattle.tree.specs.Layout.{read_kind, node_no};
-ghost use Rattle.tree.specs.Standing.{NameAt, HasName, StmtAt, HasStmt};
+ghost use Rattle.tree.specs.Standing.{NameAt, HasName, HasStmt};
 ghost use Rattle.walk.specs.Walk.{State, walk_stmt};
 ghost use Rattle.walk.specs.Meets.{Rows, rows_of};
-ghost use Rattle.walk.specs.Holds.{Holds, HasState, Ends, Enters, read_walk};
+ghost use Rattle.walk.specs.Holds.{Holds, HasState, Ends, StmtEnds, Enters, read_walk};
 
 use crate::expressions::Env;
 use crate::progress::Progress;
@@ -67,7 +66,7 @@ pub fn reads(
     requires has_stmt { HasStmt env.now.text.now env.now.tree.now i }
     requires has_kind { get_or env.now.tree.now i 0 ≡ node_no read_kind }
     requires has_state { HasState env.now input.now vars.old out.old progress.old }
-    ensures { (t : Stmt) → StmtAt env.now.text.now env.now.tree.now i t → (lv : List ℤ) (lo : List ℕ) (w : State) → Holds env.now input.now lv lo vars.old out.old progress.old w → Ends env.now input.now lv lo vars.new out.new progress.old (walk_stmt (rows_of env.now) (length lo) t progress.old.clock.left w) progress.new result }
+    ensures { StmtEnds env.now i (walk_stmt (rows_of env.now)) input.now vars.old vars.new out.old out.new progress.old progress.new result }
 {
     let count = tree::number_at(env.tree, i + 2);
     let mut j = i + 4;

@@ -1,11 +1,11 @@
 // Statements by their kinds: conditions that are tested, laps of a `while`, and the members of a body.
-ghost use Rattle.std.specs.Prelude.{◌≡◌, List, ℕ, ℤ, length, get_or};
-ghost use Rattle.tree.specs.Tree.{Cond, Stmt};
+ghost use Rattle.std.specs.Prelude.{◌≡◌, List, ℕ, ℤ, get_or};
+ghost use Rattle.tree.specs.Tree.{Cond};
 ghost use Rattle.tree.specs.Layout.{if_kind, while_kind, body_kind, node_no};
-ghost use Rattle.tree.specs.Standing.{CondAt, HasCond, StmtAt, HasStmt};
+ghost use Rattle.tree.specs.Standing.{CondAt, HasCond, HasStmt};
 ghost use Rattle.walk.specs.Walk.{State, walk_stmt};
 ghost use Rattle.walk.specs.Meets.{Rows, Known, rows_of};
-ghost use Rattle.walk.specs.Holds.{Holds, HasState, Ends};
+ghost use Rattle.walk.specs.Holds.{Holds, HasState, StmtEnds};
 ghost use Rattle.walk.specs.Tests.{test_walk, part_walk, Tests};
 
 use crate::expressions;
@@ -41,7 +41,7 @@ pub fn part(
     requires rows { Rows env.now }
     requires has_stmt { HasStmt env.now.text.now env.now.tree.now i }
     requires has_state { HasState env.now input.now vars.old out.old progress.old }
-    ensures { (t : Stmt) → StmtAt env.now.text.now env.now.tree.now i t → (lv : List ℤ) (lo : List ℕ) (w : State) → Holds env.now input.now lv lo vars.old out.old progress.old w → Ends env.now input.now lv lo vars.new out.new progress.old (part_walk (rows_of env.now) (length lo) t progress.old.clock.left w) progress.new result }
+    ensures { StmtEnds env.now i (part_walk (rows_of env.now)) input.now vars.old vars.new out.old out.new progress.old progress.new result }
 {
     statement(env, i, input, progress, vars, out)?;
     tick(progress, progress.clock.top)
@@ -61,7 +61,7 @@ fn conditional(
     requires has_stmt { HasStmt env.now.text.now env.now.tree.now i }
     requires has_kind { get_or env.now.tree.now i 0 ≡ node_no if_kind }
     requires has_state { HasState env.now input.now vars.old out.old progress.old }
-    ensures { (t : Stmt) → StmtAt env.now.text.now env.now.tree.now i t → (lv : List ℤ) (lo : List ℕ) (w : State) → Holds env.now input.now lv lo vars.old out.old progress.old w → Ends env.now input.now lv lo vars.new out.new progress.old (walk_stmt (rows_of env.now) (length lo) t progress.old.clock.left w) progress.new result }
+    ensures { StmtEnds env.now i (walk_stmt (rows_of env.now)) input.now vars.old vars.new out.old out.new progress.old progress.new result }
 {
     let holds = test(env, i + 4, progress, vars)?;
     let inner = tree::after(env.tree, i + 4);
@@ -89,7 +89,7 @@ fn looped(
     requires has_stmt { HasStmt env.now.text.now env.now.tree.now i }
     requires has_kind { get_or env.now.tree.now i 0 ≡ node_no while_kind }
     requires has_state { HasState env.now input.now vars.old out.old progress.old }
-    ensures { (t : Stmt) → StmtAt env.now.text.now env.now.tree.now i t → (lv : List ℤ) (lo : List ℕ) (w : State) → Holds env.now input.now lv lo vars.old out.old progress.old w → Ends env.now input.now lv lo vars.new out.new progress.old (walk_stmt (rows_of env.now) (length lo) t progress.old.clock.left w) progress.new result }
+    ensures { StmtEnds env.now i (walk_stmt (rows_of env.now)) input.now vars.old vars.new out.old out.new progress.old progress.new result }
 {
     let inner = tree::after(env.tree, i + 4);
     while test(env, i + 4, progress, vars)? {
@@ -112,7 +112,7 @@ pub fn body(
     requires has_stmt { HasStmt env.now.text.now env.now.tree.now i }
     requires has_kind { get_or env.now.tree.now i 0 ≡ node_no body_kind }
     requires has_state { HasState env.now input.now vars.old out.old progress.old }
-    ensures { (t : Stmt) → StmtAt env.now.text.now env.now.tree.now i t → (lv : List ℤ) (lo : List ℕ) (w : State) → Holds env.now input.now lv lo vars.old out.old progress.old w → Ends env.now input.now lv lo vars.new out.new progress.old (walk_stmt (rows_of env.now) (length lo) t progress.old.clock.left w) progress.new result }
+    ensures { StmtEnds env.now i (walk_stmt (rows_of env.now)) input.now vars.old vars.new out.old out.new progress.old progress.new result }
 {
     let count = tree::number_at(env.tree, i + 2);
     let mut j = i + 4;
@@ -136,7 +136,7 @@ fn statement(
     requires rows { Rows env.now }
     requires has_stmt { HasStmt env.now.text.now env.now.tree.now i }
     requires has_state { HasState env.now input.now vars.old out.old progress.old }
-    ensures { (t : Stmt) → StmtAt env.now.text.now env.now.tree.now i t → (lv : List ℤ) (lo : List ℕ) (w : State) → Holds env.now input.now lv lo vars.old out.old progress.old w → Ends env.now input.now lv lo vars.new out.new progress.old (walk_stmt (rows_of env.now) (length lo) t progress.old.clock.left w) progress.new result }
+    ensures { StmtEnds env.now i (walk_stmt (rows_of env.now)) input.now vars.old vars.new out.old out.new progress.old progress.new result }
 {
     match tree::kind_at(env.tree, i) {
         Kind::Assign => assign(env, i, progress, vars),

@@ -2,8 +2,8 @@
 use mathlib.Core.Path.{◌∙◌}
 use lib.ListN.{take}
 use lib.Seq.{length-take-le}
-use Rattle.parser.proofs.Exits.{left_as, refuses}
 use Rattle.parser.proofs.Entering.{room_start, reads_long, reads_bytes, reads_refused, reads}
+use Rattle.parser.proofs.Answers.{left_as, refuses}
 use Rattle.parser.proofs.read_tree.Goals as goal
 
 pub returns-then-text-gt-MAX_SOURCE : goal.returns-then-text-gt-MAX_SOURCE

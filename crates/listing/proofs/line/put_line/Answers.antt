@@ -9,9 +9,7 @@ use lib.ListN.{length}
 use mir.Syntax.{w64}
 use mir.Val.{SFits}
 use borrow.Author.Rules.{rules}
-use mir.ValLaws.{to_z-of_z}
 use Rattle.numbers.proofs.Bits.{plain}
-use Rattle.numbers.proofs.Screens.{wrote_as}
 use Rattle.pcode.specs.Code.{ins}
 use Rattle.pcode.specs.Coded.{op_of}
 use Rattle.listing.specs.Listing.{line_of}
@@ -24,11 +22,13 @@ returns-then-not-has_room c =
     let level = c.args.i.level in
     let operand = c.args.i.operand in
     let ho : SFits w64 operand = search rules in
-    let count = plain (λ (z : ℤ). length (line_of index (ins o level z))) operand ho (c.line_length.ensures o) in
-    (refl, record {
-      full = sym (ap (λ (k : ℕ). leb (c.args.at + k) (length c.args.out.now)) count) ∙ sym c.has_room.ensures ∙ not-true _ c.if-not-has_room.true-raw;
-      same = refl;
-    })
+    let count = plain (λ (z : ℤ). length (line_of index (ins o level z))) operand ho (c.line_length.ensures o) in (
+      refl,
+      record {
+        full = sym (ap (λ (k : ℕ). leb (c.args.at + k) (length c.args.out.now)) count) ∙ sym c.has_room.ensures ∙ not-true _ c.if-not-has_room.true-raw;
+        same = refl;
+      },
+    )
 
 pub write_line-requires : goal.write_line-requires
 write_line-requires c =

@@ -1,7 +1,6 @@
 -- `line::write_line` meets its contract: one piece behind the other.
-use mathlib.Core.Path.{ap, ◌∙◌}
+use mathlib.Core.Path.{ap}
 use native.Mathlib.Omega.{arith}
-use lib.IntN.{ℤ}
 use lib.ListN.{length}
 use mir.Syntax.{w64}
 use mir.Val.{SFits}
@@ -11,7 +10,7 @@ use Rattle.numbers.specs.Bytes.{bytes}
 use Rattle.numbers.specs.Screen.{decimal}
 use Rattle.numbers.proofs.Screens.{wrote_as, wrote_behind, wrote_size}
 use Rattle.pcode.specs.Coded.{op_of}
-use Rattle.listing.specs.Listing.{letters, right_aligned}
+use Rattle.listing.specs.Listing.{right_aligned}
 use Rattle.listing.specs.LineLaws.{letters_three}
 use Rattle.listing.proofs.Columns.{line_is, line_length, bar_room, kind_room, space_room, level_room, spaces_room, operand_room, end_room}
 use Rattle.listing.proofs.line.write_line.Goals as goal

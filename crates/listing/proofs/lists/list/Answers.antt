@@ -1,5 +1,5 @@
 -- `lists::list` meets its contract. The loop's invariant: so many lines are written, and the definition goes on from there.
-use mathlib.Core.Path.{sym, ap, ◌∙◌}
+use mathlib.Core.Path.{ap}
 use native.Mathlib.Omega.{arith}
 use Rattle.numbers.proofs.Screens.{wrote_as}
 use Rattle.pcode.specs.Code.{Code, Instr, instrs_in}

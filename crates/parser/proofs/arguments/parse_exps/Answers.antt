@@ -1,13 +1,11 @@
 -- `arguments::parse_exps` meets its contract.
-use mathlib.Core.Path.{refl, ap}
+use mathlib.Core.Path.{refl}
 use Prim.Native.Nat.{◌+◌, ◌*◌}
 use native.Mathlib.Omega.{arith}
-use Rattle.std.proofs.lemmas.Result.{err_from_is_err_and}
 use Rattle.lexer.specs.Marks.{close_sign}
 use Rattle.lexer.specs.Stands.{left}
 use Rattle.tree.specs.Nodes.{exp_node}
-use Rattle.parser.specs.Answer.{node_of}
-use Rattle.parser.proofs.Answers.{node_refused, grew, made, room_after, same_left, one_fewer}
+use Rattle.parser.proofs.Answers.{grew, made, room_after, same_left, one_fewer, refuses, left_as}
 use Rattle.parser.proofs.Loops.{going_start, going_room, going_more, going_refused, going_end}
 use Rattle.parser.proofs.Commas.{member_more, member_refused, comma_stop, comma_turn, comma_end}
 use Rattle.parser.proofs.Plain.{argues_refused, argues_ended}
@@ -23,15 +21,13 @@ parse_exp-requires c =
 
 pub returns-in_err-e : goal.returns-in_err-e
 returns-in_err-e c =
-    let p = err_from_is_err_and c.from_residual.result c.from_residual.ensures.1 in
     let i = c.loop-e.invariant (8 * left c.args.cur + 3) (omega arith) in
-    rw (p.1, p.2) (argues_refused _ _ (λ x l k s. going_refused _ _ _ _ (c.loop-e.invariant x l) (member_refused _ _ (exp_node 0) (λ k s. node_refused c.parse_exp.ensures c.in_err-e.was x (omega (arith, l, i.fewer)) k s)) x (omega (arith, l)) k s))
+    rw (left_as c.from_residual.ensures) (argues_refused _ _ (λ x l k s. going_refused _ _ _ _ (c.loop-e.invariant x l) (member_refused _ _ (exp_node 0) (λ k s. refuses c.in_err-e.ensures x (omega (arith, l, i.fewer)) k s)) x (omega (arith, l)) k s))
 
 pub returns-in_err-f : goal.returns-in_err-f
 returns-in_err-f c =
-    let p = err_from_is_err_and c.from_residual-in_err-f.result c.from_residual-in_err-f.ensures.1 in
     let i = c.loop-e.invariant (8 * left c.args.cur + 3) (omega arith) in
-    rw (p.1, p.2) (argues_refused _ _ (λ x l k s. going_refused _ _ _ _ (c.loop-e.invariant x l) (comma_stop _ _ (exp_node 0) (λ k s. made c.parse_exp.ensures (ap node_of c.in_ok-e.was) x (omega (arith, l, i.fewer)) k s) c.see.ensures c.in_err-f.was) x (omega (arith, l)) k s))
+    rw (left_as c.from_residual-in_err-f.ensures) (argues_refused _ _ (λ x l k s. going_refused _ _ _ _ (c.loop-e.invariant x l) (comma_stop _ _ (exp_node 0) (λ k s. made c.in_ok-e.ensures refl x (omega (arith, l, i.fewer)) k s) c.see.ensures c.in_err-f.was) x (omega (arith, l)) k s))
 
 pub overflow_add-count : goal.overflow_add-count
 overflow_add-count c =
@@ -40,11 +36,11 @@ overflow_add-count c =
 
 pub end_list-requires : goal.end_list-requires
 end_list-requires c =
-    let g = grew c.parse_exp.ensures (ap node_of c.in_ok-e.was) in
+    let g = grew c.in_ok-e.ensures refl in
     let i = c.loop-e.invariant (8 * left c.args.cur + 3) (omega arith) in
     let k = c.parse_exp.auto.tree in
     let p = going_room _ _ _ _ i c.requires.room in
-    let l = member_more _ _ (exp_node 0) (λ k s. made c.parse_exp.ensures (ap node_of c.in_ok-e.was) (8 * left c.args.cur + 3) (omega (arith, i.fewer)) k s) p.place p.stands in
+    let l = member_more _ _ (exp_node 0) (λ k s. made c.in_ok-e.ensures refl (8 * left c.args.cur + 3) (omega (arith, i.fewer)) k s) p.place p.stands in
     record {
       used_bound = (omega (arith, g.above, i.above, c.requires.used_bound.0), omega (arith, g.room, p.room));
       count_le_end = (omega (arith, i.few), omega (arith, p.small));
@@ -52,24 +48,24 @@ end_list-requires c =
 
 pub returns-in_default : goal.returns-in_default
 returns-in_default c =
-    let g = grew c.parse_exp.ensures (ap node_of c.in_ok-e.was) in
+    let g = grew c.in_ok-e.ensures refl in
     let i = c.loop-e.invariant (8 * left c.args.cur + 3) (omega arith) in
     let p = going_room _ _ _ _ i c.requires.room in
-    let a = room_after c.parse_exp.ensures (ap node_of c.in_ok-e.was) {t = 0} p c.parse_exp.auto.tree (omega arith) in
+    let a = room_after c.in_ok-e.ensures refl {t = 0} p c.parse_exp.auto.tree (omega arith) in
     let o = same_left a c.see.ensures c.in_ok-f.was in
     argues_ended _ _
-    (λ x l k s. going_end _ _ _ _ (c.loop-e.invariant x l) (comma_end _ _ (exp_node 0) (λ k s. made c.parse_exp.ensures (ap node_of c.in_ok-e.was) x (omega (arith, l, i.fewer)) k s) c.see.ensures c.in_ok-f.was c.in_default.not-Comma) refl x (omega (arith, l)) k s)
+    (λ x l k s. going_end _ _ _ _ (c.loop-e.invariant x l) (comma_end _ _ (exp_node 0) (λ k s. made c.in_ok-e.ensures refl x (omega (arith, l, i.fewer)) k s) c.see.ensures c.in_ok-f.was c.in_default.not-Comma) refl x (omega (arith, l)) k s)
     c.requires.used_bound.0 (omega (arith, g.above, i.above)) (omega (arith, g.fewer, i.fewer)) (omega (arith, g.room, i.room)) c.requires.room.place c.requires.room.stands _ (c.end_list.ensures close_sign refl)
 
 pub loop-e-smaller : goal.loop-e-smaller
 loop-e-smaller c =
     let p = going_room _ _ _ _ (c.loop-e.invariant (8 * left c.args.cur + 3) (omega arith)) c.requires.room in
-    let a = room_after c.parse_exp.ensures (ap node_of c.in_ok-e.was) {t = 0} p c.parse_exp.auto.tree (omega arith) in
-    omega (arith, (grew c.parse_exp.ensures (ap node_of c.in_ok-e.was)).fewer, one_fewer a c.see.ensures c.in_ok-f.was c.take-c.ensures)
+    let a = room_after c.in_ok-e.ensures refl {t = 0} p c.parse_exp.auto.tree (omega arith) in
+    omega (arith, (grew c.in_ok-e.ensures refl).fewer, one_fewer a c.see.ensures c.in_ok-f.was c.take-c.ensures)
 
 pub loop-e-preserved : goal.loop-e-preserved
 loop-e-preserved c =
     let i = c.loop-e.invariant (8 * left c.args.cur + 3) (omega arith) in
     let p = going_room _ _ _ _ i c.requires.room in
-    let a = room_after c.parse_exp.ensures (ap node_of c.in_ok-e.was) {t = 0} p c.parse_exp.auto.tree (omega arith) in
-    λ N l. going_more _ _ _ _ (c.loop-e.invariant N l) c.requires.room (comma_turn _ _ (exp_node 0) (λ k s. made c.parse_exp.ensures (ap node_of c.in_ok-e.was) N (omega (arith, l, i.fewer)) k s) c.see.ensures c.in_ok-f.was c.in-Comma.is c.take-c.ensures (one_fewer a c.see.ensures c.in_ok-f.was c.take-c.ensures) (grew c.parse_exp.ensures (ap node_of c.in_ok-e.was))) c.parse_exp.auto.tree
+    let a = room_after c.in_ok-e.ensures refl {t = 0} p c.parse_exp.auto.tree (omega arith) in
+    λ N l. going_more _ _ _ _ (c.loop-e.invariant N l) c.requires.room (comma_turn _ _ (exp_node 0) (λ k s. made c.in_ok-e.ensures refl N (omega (arith, l, i.fewer)) k s) c.see.ensures c.in_ok-f.was c.in-Comma.is c.take-c.ensures (one_fewer a c.see.ensures c.in_ok-f.was c.take-c.ensures) (grew c.in_ok-e.ensures refl)) c.parse_exp.auto.tree

@@ -1,14 +1,12 @@
 -- `conditions::parse_l_exp` meets its contract.
 use native.Mathlib.Omega.{arith}
-use Rattle.std.proofs.lemmas.Result.{err_from_is_err_and}
-use Rattle.parser.proofs.Answers.{refused, moved, room_seen, same_left, room_taken, one_fewer}
+use Rattle.parser.proofs.Answers.{refused, moved, room_seen, same_left, room_taken, one_fewer, left_as}
 use Rattle.parser.proofs.Conds.{cond_refused, cond_odd, cond_compared}
 use Rattle.parser.proofs.conditions.parse_l_exp.Goals as goal
 
 pub returns-in_err-c : goal.returns-in_err-c
 returns-in_err-c c =
-    let p = err_from_is_err_and c.from_residual.result c.from_residual.ensures.1 in
-    rw (p.1, p.2) (refused (cond_refused _ _ c.see.ensures c.in_err-c.was))
+    rw (left_as c.from_residual.ensures) (refused (cond_refused _ _ c.see.ensures c.in_err-c.was))
 
 pub parse_odd-requires : goal.parse_odd-requires
 parse_odd-requires c =

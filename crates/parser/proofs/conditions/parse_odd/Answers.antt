@@ -1,20 +1,17 @@
 -- `conditions::parse_odd` meets its contract.
-use mathlib.Core.Path.{ap}
+use mathlib.Core.Path.{refl}
 use native.Mathlib.Omega.{arith}
-use Rattle.std.proofs.lemmas.Result.{err_from_is_err_and}
-use Rattle.parser.specs.Answer.{node_of}
-use Rattle.parser.proofs.Answers.{refused, node_refused, grew}
+use Rattle.parser.proofs.Answers.{refused, grew, left_as, refuses}
 use Rattle.parser.proofs.Conds.{odds_refused, odds_done}
 use Rattle.parser.proofs.conditions.parse_odd.Goals as goal
 
 pub returns-in_err-end : goal.returns-in_err-end
 returns-in_err-end c =
-    let p = err_from_is_err_and c.from_residual.result c.from_residual.ensures.1 in
-    rw (p.1, p.2) (refused (odds_refused _ _ (node_refused c.parse_exp.ensures c.in_err-end.was)))
+    rw (left_as c.from_residual.ensures) (refused (odds_refused _ _ (refuses c.in_err-end.ensures)))
 
 pub seal-requires : goal.seal-requires
 seal-requires c =
-    let g = grew c.parse_exp.ensures (ap node_of c.in_ok-end.was) in
+    let g = grew c.in_ok-end.ensures refl in
     let k = c.parse_exp.auto.tree in
     record {
       i_bound = (g.above, omega (arith, g.room, c.requires.room));
@@ -23,4 +20,4 @@ seal-requires c =
 
 pub returns : goal.returns
 returns c =
-    odds_done _ _ _ c.parse_exp.ensures (ap node_of c.in_ok-end.was) c.seal.ensures
+    odds_done _ _ _ c.in_ok-end.ensures refl c.seal.ensures

@@ -3,8 +3,7 @@ use mathlib.Core.Path.{refl}
 use native.Mathlib.Omega.{arith}
 use Rattle.lexer.specs.Marks.{close_sign}
 use Rattle.tree.specs.Layout.{list_kind}
-use Rattle.parser.proofs.Answers.{refused, moved, same_left, room_seen, one_fewer}
-use Rattle.parser.proofs.Exits.{left_as}
+use Rattle.parser.proofs.Answers.{refused, moved, same_left, room_seen, one_fewer, left_as}
 use Rattle.parser.proofs.Declared.{args_stop, args_there, args_none}
 use Rattle.parser.proofs.declarations.parse_args.Goals as goal
 

@@ -2,8 +2,7 @@
 use mathlib.Core.Path.{refl}
 use native.Mathlib.Omega.{arith}
 use Rattle.lexer.specs.Marks.{becomes_sign}
-use Rattle.parser.proofs.Answers.{refused, grew, room_after, room_took, wanted_fewer}
-use Rattle.parser.proofs.Exits.{left_as, refuses}
+use Rattle.parser.proofs.Answers.{refused, grew, room_after, room_took, wanted_fewer, left_as, refuses}
 use Rattle.parser.proofs.Declared.{const_refused, const_mark, const_number, const_done}
 use Rattle.parser.proofs.declarations.parse_const.Goals as goal
 

@@ -2,8 +2,7 @@
 use mathlib.Core.Path.{refl}
 use native.Mathlib.Omega.{arith}
 use Rattle.tree.specs.Nodes.{const_node}
-use Rattle.parser.proofs.Answers.{refused, moved, same_left, room_taken, one_fewer}
-use Rattle.parser.proofs.Exits.{left_as}
+use Rattle.parser.proofs.Answers.{refused, moved, same_left, room_taken, one_fewer, left_as}
 use Rattle.parser.proofs.Sequences.{owed}
 use Rattle.parser.proofs.Declared.{const_whole, part_stop, part_there, part_none}
 use Rattle.parser.proofs.declarations.parse_const_decl.Goals as goal

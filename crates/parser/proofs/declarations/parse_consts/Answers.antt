@@ -5,8 +5,7 @@ use native.Mathlib.Omega.{arith}
 use Rattle.lexer.specs.Marks.{semicolon_sign}
 use Rattle.tree.specs.Layout.{list_kind}
 use Rattle.tree.specs.Nodes.{const_node}
-use Rattle.parser.proofs.Answers.{refused, grew, made, room_after, room_at, same_left, one_fewer}
-use Rattle.parser.proofs.Exits.{left_as, refuses}
+use Rattle.parser.proofs.Answers.{refused, grew, made, room_after, room_at, same_left, one_fewer, left_as, refuses}
 use Rattle.parser.proofs.Loops.{going_start, going_room, going_more, going_refused, going_end}
 use Rattle.parser.proofs.Commas.{member_more, member_refused, comma_stop, comma_turn, comma_end, list_refused, list_ended}
 use Rattle.parser.proofs.declarations.parse_consts.Goals as goal

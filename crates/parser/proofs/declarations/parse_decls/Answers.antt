@@ -1,8 +1,7 @@
 -- `declarations::parse_decls` meets its contract.
 use mathlib.Core.Path.{refl}
 use native.Mathlib.Omega.{arith}
-use Rattle.parser.proofs.Answers.{refused, room_after, room_at}
-use Rattle.parser.proofs.Exits.{left_as, refuses}
+use Rattle.parser.proofs.Answers.{refused, room_after, room_at, left_as, refuses}
 use Rattle.parser.proofs.Sequences.{first_refused, second_done}
 use Rattle.parser.proofs.Declared.{decls_whole, decls_join}
 use Rattle.parser.proofs.declarations.parse_decls.Goals as goal

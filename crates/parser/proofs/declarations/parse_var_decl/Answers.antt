@@ -4,8 +4,7 @@ use native.Mathlib.Omega.{arith}
 use Rattle.lexer.specs.Marks.{semicolon_sign}
 use Rattle.tree.specs.Layout.{list_kind}
 use Rattle.tree.specs.Nodes.{name_node}
-use Rattle.parser.proofs.Answers.{refused, moved, same_left, room_taken, one_fewer}
-use Rattle.parser.proofs.Exits.{left_as}
+use Rattle.parser.proofs.Answers.{refused, moved, same_left, room_taken, one_fewer, left_as}
 use Rattle.parser.proofs.Sequences.{owed}
 use Rattle.parser.proofs.Declared.{var_whole, part_stop, part_there, part_none}
 use Rattle.parser.proofs.declarations.parse_var_decl.Goals as goal

@@ -1,10 +1,8 @@
 -- The proof of the cycle of calls of the readers of expressions. Each member's measure is eight times the tokens left, and its rank.
-use mathlib.Core.Path.{refl, ap}
+use mathlib.Core.Path.{refl}
 use native.Mathlib.Omega.{arith}
-use Rattle.std.proofs.lemmas.Result.{err_from_is_err_and}
 use Rattle.lexer.specs.Marks.{close_sign}
-use Rattle.parser.specs.Answer.{node_of}
-use Rattle.parser.proofs.Answers.{refused, node_refused, grew, room_after, moved, room_seen, same_left, room_taken, one_fewer, wanted_fewer}
+use Rattle.parser.proofs.Answers.{refused, grew, room_after, moved, room_seen, same_left, room_taken, one_fewer, wanted_fewer, left_as, refuses}
 use Rattle.parser.proofs.Loops.{going_start, going_room, going_more, going_refused, going_end}
 use Rattle.parser.proofs.Seeing.{saw}
 use Rattle.parser.proofs.Leaves.{literal_of_lem, literal_pos}
@@ -14,17 +12,15 @@ use Rattle.parser.proofs.expressions.+parse_brackets_parse_exp_parse_factor_pars
 
 pub parse_brackets-returns-in_err-end : goal.parse_brackets-returns-in_err-end
 parse_brackets-returns-in_err-end t c =
-    let p = err_from_is_err_and c.from_residual.result c.from_residual.ensures.1 in
-    rw (p.1, p.2) (refused (bracketed_refused _ _ (node_refused c.parse_exp.ensures c.in_err-end.was)))
+    rw (left_as c.from_residual.ensures) (refused (bracketed_refused _ _ (refuses c.in_err-end.ensures)))
 
 pub parse_brackets-returns-in_err-d : goal.parse_brackets-returns-in_err-d
 parse_brackets-returns-in_err-d t c =
-    let p = err_from_is_err_and c.from_residual-in_err-d.result c.from_residual-in_err-d.ensures.1 in
-    rw (p.1, p.2) (refused (bracketed_open _ _ _ c.parse_exp.ensures (ap node_of c.in_ok-end.was) (c.want.ensures close_sign refl) c.in_err-d.was))
+    rw (left_as c.from_residual-in_err-d.ensures) (refused (bracketed_open _ _ _ c.in_ok-end.ensures refl (c.want.ensures close_sign refl) c.in_err-d.was))
 
 pub parse_brackets-seal-requires : goal.parse_brackets-seal-requires
 parse_brackets-seal-requires t c =
-    let g = grew c.parse_exp.ensures (ap node_of c.in_ok-end.was) in
+    let g = grew c.in_ok-end.ensures refl in
     let k = c.parse_exp.auto.tree in
     record {
       i_bound = (g.above, omega (arith, g.room, c.requires.room));
@@ -33,27 +29,25 @@ parse_brackets-seal-requires t c =
 
 pub parse_brackets-returns : goal.parse_brackets-returns
 parse_brackets-returns t c =
-    let p = room_after c.parse_exp.ensures (ap node_of c.in_ok-end.was) {t = 0} c.requires c.parse_exp.auto.tree (omega arith) in
-    bracketed_done _ _ _ c.parse_exp.ensures (ap node_of c.in_ok-end.was) (c.want.ensures close_sign refl) c.in_ok-d.was (wanted_fewer p (c.want.ensures close_sign refl) c.in_ok-d.was) c.seal.ensures
+    let p = room_after c.in_ok-end.ensures refl {t = 0} c.requires c.parse_exp.auto.tree (omega arith) in
+    bracketed_done _ _ _ c.in_ok-end.ensures refl (c.want.ensures close_sign refl) c.in_ok-d.was (wanted_fewer p (c.want.ensures close_sign refl) c.in_ok-d.was) c.seal.ensures
 
 pub parse_exp-returns-in_err-end : goal.parse_exp-returns-in_err-end
 parse_exp-returns-in_err-end t c =
-    let p = err_from_is_err_and c.from_residual.result c.from_residual.ensures.1 in
-    rw (p.1, p.2) (refused (chain_first (sums _ _) 2 4 (omega arith) (node_refused c.parse_signed.ensures c.in_err-end.was)))
+    rw (left_as c.from_residual.ensures) (refused (chain_first (sums _ _) 2 4 (omega arith) (refuses c.in_err-end.ensures)))
 
 pub parse_exp-loop-d-init : goal.parse_exp-loop-d-init
 parse_exp-loop-d-init t c =
-    let g = grew c.parse_signed.ensures (ap node_of c.in_ok-end.was) in
+    let g = grew c.in_ok-end.ensures refl in
     going_start _ _ _ _ _ _ _ _ (omega (arith, g.room, c.requires.room, c.parse_signed.auto.tree)) (omega (arith, g.above))
 
 pub parse_exp-returns-in_err-d : goal.parse_exp-returns-in_err-d
 parse_exp-returns-in_err-d t c =
-    let p = err_from_is_err_and c.from_residual-in_err-d.result c.from_residual-in_err-d.ensures.1 in
-    rw (p.1, p.2) (refused (chain_rest (sums _ _) 2 4 (omega arith) _ c.parse_signed.ensures (ap node_of c.in_ok-end.was) (going_refused _ _ _ _ c.loop-d.invariant (chain_stop (sums _ _) c.see.ensures c.in_err-d.was))))
+    rw (left_as c.from_residual-in_err-d.ensures) (refused (chain_rest (sums _ _) 2 4 (omega arith) _ c.in_ok-end.ensures refl (going_refused _ _ _ _ c.loop-d.invariant (chain_stop (sums _ _) c.see.ensures c.in_err-d.was))))
 
 pub parse_exp-seal-requires : goal.parse_exp-seal-requires
 parse_exp-seal-requires t c =
-    let g = grew c.parse_signed.ensures (ap node_of c.in_ok-end.was) in
+    let g = grew c.in_ok-end.ensures refl in
     let i = c.loop-d.invariant in
     let k = c.parse_signed.auto.tree in
     record {
@@ -65,45 +59,43 @@ pub parse_exp-returns-in_default : goal.parse_exp-returns-in_default
 parse_exp-returns-in_default t c =
     let e = joins_none _ _ _ _ c.sum_op.ensures c.in_default.is in
     let i = c.loop-d.invariant in
-    let q = going_room _ _ _ _ i (room_after c.parse_signed.ensures (ap node_of c.in_ok-end.was) {t = 0} c.requires c.parse_signed.auto.tree (omega arith)) in
-    chain_done (sums _ _) 2 4 (omega arith) _ c.parse_signed.ensures (ap node_of c.in_ok-end.was) i (same_left q c.see.ensures c.in_ok-d.was)
+    let q = going_room _ _ _ _ i (room_after c.in_ok-end.ensures refl {t = 0} c.requires c.parse_signed.auto.tree (omega arith)) in
+    chain_done (sums _ _) 2 4 (omega arith) _ c.in_ok-end.ensures refl i (same_left q c.see.ensures c.in_ok-d.was)
     (going_end _ _ _ _ i (chain_end (sums _ _) c.see.ensures c.in_ok-d.was e (omega (arith, q.room))) (omega arith))
     c.seal.ensures 0 (omega arith)
 
 pub parse_exp-parse_term-requires : goal.parse_exp-parse_term-requires
 parse_exp-parse_term-requires t c =
     let i = c.loop-d.invariant in
-    let q = going_room _ _ _ _ i (room_after c.parse_signed.ensures (ap node_of c.in_ok-end.was) {t = 0} c.requires c.parse_signed.auto.tree (omega arith)) in
-    let g = grew c.parse_signed.ensures (ap node_of c.in_ok-end.was) in
+    let q = going_room _ _ _ _ i (room_after c.in_ok-end.ensures refl {t = 0} c.requires c.parse_signed.auto.tree (omega arith)) in
+    let g = grew c.in_ok-end.ensures refl in
     (omega (arith, c.decreases, g.fewer, i.fewer, one_fewer q c.see.ensures c.in_ok-d.was c.take.ensures), room_taken q c.see.ensures c.in_ok-d.was c.take.ensures _ 4 (omega arith))
 
 pub parse_exp-returns-in_err-e : goal.parse_exp-returns-in_err-e
 parse_exp-returns-in_err-e t c =
-    let p = err_from_is_err_and c.from_residual-in_err-e.result c.from_residual-in_err-e.ensures.1 in
-    rw (p.1, p.2) (refused (chain_rest (sums _ _) 2 4 (omega arith) _ c.parse_signed.ensures (ap node_of c.in_ok-end.was) (going_refused _ _ _ _ c.loop-d.invariant (chain_operand (sums _ _) c.see.ensures c.in_ok-d.was c.sum_op.ensures c.in-Some.is c.joined.ensures c.take.ensures (omega arith) (node_refused c.parse_term.ensures c.in_err-e.was)))))
+    rw (left_as c.from_residual-in_err-e.ensures) (refused (chain_rest (sums _ _) 2 4 (omega arith) _ c.in_ok-end.ensures refl (going_refused _ _ _ _ c.loop-d.invariant (chain_operand (sums _ _) c.see.ensures c.in_ok-d.was c.sum_op.ensures c.in-Some.is c.joined.ensures c.take.ensures (omega arith) (refuses c.in_err-e.ensures)))))
 
 pub parse_exp-overflow_add-count : goal.parse_exp-overflow_add-count
 parse_exp-overflow_add-count t c =
-    omega (arith, c.loop-d.invariant.few, c.loop-d.invariant.room, c.loop-d.invariant.same, c.requires.room, c.requires.small, c.parse_signed.auto.tree, (grew c.parse_signed.ensures (ap node_of c.in_ok-end.was)).room)
+    omega (arith, c.loop-d.invariant.few, c.loop-d.invariant.room, c.loop-d.invariant.same, c.requires.room, c.requires.small, c.parse_signed.auto.tree, (grew c.in_ok-end.ensures refl).room)
 
 pub parse_exp-loop-d-smaller : goal.parse_exp-loop-d-smaller
 parse_exp-loop-d-smaller t c =
-    let q = going_room _ _ _ _ c.loop-d.invariant (room_after c.parse_signed.ensures (ap node_of c.in_ok-end.was) {t = 0} c.requires c.parse_signed.auto.tree (omega arith)) in
-    omega (arith, (grew c.parse_term.ensures (ap node_of c.in_ok-e.was)).fewer, one_fewer q c.see.ensures c.in_ok-d.was c.take.ensures)
+    let q = going_room _ _ _ _ c.loop-d.invariant (room_after c.in_ok-end.ensures refl {t = 0} c.requires c.parse_signed.auto.tree (omega arith)) in
+    omega (arith, (grew c.in_ok-e.ensures refl).fewer, one_fewer q c.see.ensures c.in_ok-d.was c.take.ensures)
 
 pub parse_exp-loop-d-preserved : goal.parse_exp-loop-d-preserved
 parse_exp-loop-d-preserved t c =
-    let p = room_after c.parse_signed.ensures (ap node_of c.in_ok-end.was) {t = 0} c.requires c.parse_signed.auto.tree (omega arith) in
+    let p = room_after c.in_ok-end.ensures refl {t = 0} c.requires c.parse_signed.auto.tree (omega arith) in
     let i = c.loop-d.invariant in
     let q = going_room _ _ _ _ i p in
     going_more _ _ _ _ i p
-    (chain_turn (sums _ _) c.see.ensures c.in_ok-d.was c.sum_op.ensures c.in-Some.is c.joined.ensures c.take.ensures (omega arith) c.parse_term.ensures (ap node_of c.in_ok-e.was) (one_fewer q c.see.ensures c.in_ok-d.was c.take.ensures))
+    (chain_turn (sums _ _) c.see.ensures c.in_ok-d.was c.sum_op.ensures c.in-Some.is c.joined.ensures c.take.ensures (omega arith) c.in_ok-e.ensures refl (one_fewer q c.see.ensures c.in_ok-d.was c.take.ensures))
     c.parse_term.auto.tree
 
 pub parse_factor-returns-in_err-c : goal.parse_factor-returns-in_err-c
 parse_factor-returns-in_err-c t c =
-    let p = err_from_is_err_and c.from_residual.result c.from_residual.ensures.1 in
-    rw (p.1, p.2) (refused (factor_refused _ _ c.see.ensures c.in_err-c.was))
+    rw (left_as c.from_residual.ensures) (refused (factor_refused _ _ c.see.ensures c.in_err-c.was))
 
 pub parse_factor-push_name-requires : goal.parse_factor-push_name-requires
 parse_factor-push_name-requires t c =
@@ -159,12 +151,11 @@ parse_factor-returns-in_default t c =
 
 pub parse_negated-returns-in_err-end : goal.parse_negated-returns-in_err-end
 parse_negated-returns-in_err-end t c =
-    let p = err_from_is_err_and c.from_residual.result c.from_residual.ensures.1 in
-    rw (p.1, p.2) (refused (negated_refused _ _ (node_refused c.parse_term.ensures c.in_err-end.was)))
+    rw (left_as c.from_residual.ensures) (refused (negated_refused _ _ (refuses c.in_err-end.ensures)))
 
 pub parse_negated-seal-requires : goal.parse_negated-seal-requires
 parse_negated-seal-requires t c =
-    let g = grew c.parse_term.ensures (ap node_of c.in_ok-end.was) in
+    let g = grew c.in_ok-end.ensures refl in
     let k = c.parse_term.auto.tree in
     record {
       i_bound = (g.above, omega (arith, g.room, c.requires.room));
@@ -173,12 +164,11 @@ parse_negated-seal-requires t c =
 
 pub parse_negated-returns : goal.parse_negated-returns
 parse_negated-returns t c =
-    negated_done _ _ _ c.parse_term.ensures (ap node_of c.in_ok-end.was) c.seal.ensures
+    negated_done _ _ _ c.in_ok-end.ensures refl c.seal.ensures
 
 pub parse_signed-returns-in_err-c : goal.parse_signed-returns-in_err-c
 parse_signed-returns-in_err-c t c =
-    let p = err_from_is_err_and c.from_residual.result c.from_residual.ensures.1 in
-    rw (p.1, p.2) (refused (signed_refused _ _ c.see.ensures c.in_err-c.was))
+    rw (left_as c.from_residual.ensures) (refused (signed_refused _ _ c.see.ensures c.in_err-c.was))
 
 pub parse_signed-parse_term-requires : goal.parse_signed-parse_term-requires
 parse_signed-parse_term-requires t c =
@@ -209,22 +199,20 @@ parse_signed-returns-in_default t c =
 
 pub parse_term-returns-in_err-end : goal.parse_term-returns-in_err-end
 parse_term-returns-in_err-end t c =
-    let p = err_from_is_err_and c.from_residual.result c.from_residual.ensures.1 in
-    rw (p.1, p.2) (refused (chain_first (products _ _) 1 8 (omega arith) (node_refused c.parse_factor.ensures c.in_err-end.was)))
+    rw (left_as c.from_residual.ensures) (refused (chain_first (products _ _) 1 8 (omega arith) (refuses c.in_err-end.ensures)))
 
 pub parse_term-loop-d-init : goal.parse_term-loop-d-init
 parse_term-loop-d-init t c =
-    let g = grew c.parse_factor.ensures (ap node_of c.in_ok-end.was) in
+    let g = grew c.in_ok-end.ensures refl in
     going_start _ _ _ _ _ _ _ _ (omega (arith, g.room, c.requires.room, c.parse_factor.auto.tree)) (omega (arith, g.above))
 
 pub parse_term-returns-in_err-d : goal.parse_term-returns-in_err-d
 parse_term-returns-in_err-d t c =
-    let p = err_from_is_err_and c.from_residual-in_err-d.result c.from_residual-in_err-d.ensures.1 in
-    rw (p.1, p.2) (refused (chain_rest (products _ _) 1 8 (omega arith) _ c.parse_factor.ensures (ap node_of c.in_ok-end.was) (going_refused _ _ _ _ c.loop-d.invariant (chain_stop (products _ _) c.see.ensures c.in_err-d.was))))
+    rw (left_as c.from_residual-in_err-d.ensures) (refused (chain_rest (products _ _) 1 8 (omega arith) _ c.in_ok-end.ensures refl (going_refused _ _ _ _ c.loop-d.invariant (chain_stop (products _ _) c.see.ensures c.in_err-d.was))))
 
 pub parse_term-seal-requires : goal.parse_term-seal-requires
 parse_term-seal-requires t c =
-    let g = grew c.parse_factor.ensures (ap node_of c.in_ok-end.was) in
+    let g = grew c.in_ok-end.ensures refl in
     let i = c.loop-d.invariant in
     let k = c.parse_factor.auto.tree in
     record {
@@ -236,37 +224,36 @@ pub parse_term-returns-in_default : goal.parse_term-returns-in_default
 parse_term-returns-in_default t c =
     let e = joins_none _ _ _ _ c.product_op.ensures c.in_default.is in
     let i = c.loop-d.invariant in
-    let q = going_room _ _ _ _ i (room_after c.parse_factor.ensures (ap node_of c.in_ok-end.was) {t = 0} c.requires c.parse_factor.auto.tree (omega arith)) in
-    chain_done (products _ _) 1 8 (omega arith) _ c.parse_factor.ensures (ap node_of c.in_ok-end.was) i (same_left q c.see.ensures c.in_ok-d.was)
+    let q = going_room _ _ _ _ i (room_after c.in_ok-end.ensures refl {t = 0} c.requires c.parse_factor.auto.tree (omega arith)) in
+    chain_done (products _ _) 1 8 (omega arith) _ c.in_ok-end.ensures refl i (same_left q c.see.ensures c.in_ok-d.was)
     (going_end _ _ _ _ i (chain_end (products _ _) c.see.ensures c.in_ok-d.was e (omega (arith, q.room))) (omega arith))
     c.seal.ensures 4 (omega arith)
 
 pub parse_term-parse_factor-requires-in-loop-d : goal.parse_term-parse_factor-requires-in-loop-d
 parse_term-parse_factor-requires-in-loop-d t c =
     let i = c.loop-d.invariant in
-    let q = going_room _ _ _ _ i (room_after c.parse_factor.ensures (ap node_of c.in_ok-end.was) {t = 0} c.requires c.parse_factor.auto.tree (omega arith)) in
-    let g = grew c.parse_factor.ensures (ap node_of c.in_ok-end.was) in
+    let q = going_room _ _ _ _ i (room_after c.in_ok-end.ensures refl {t = 0} c.requires c.parse_factor.auto.tree (omega arith)) in
+    let g = grew c.in_ok-end.ensures refl in
     (omega (arith, c.decreases, g.fewer, i.fewer, one_fewer q c.see.ensures c.in_ok-d.was c.take.ensures), room_taken q c.see.ensures c.in_ok-d.was c.take.ensures _ 0 (omega arith))
 
 pub parse_term-returns-in_err-e : goal.parse_term-returns-in_err-e
 parse_term-returns-in_err-e t c =
-    let p = err_from_is_err_and c.from_residual-in_err-e.result c.from_residual-in_err-e.ensures.1 in
-    rw (p.1, p.2) (refused (chain_rest (products _ _) 1 8 (omega arith) _ c.parse_factor.ensures (ap node_of c.in_ok-end.was) (going_refused _ _ _ _ c.loop-d.invariant (chain_operand (products _ _) c.see.ensures c.in_ok-d.was c.product_op.ensures c.in-Some.is c.joined.ensures c.take.ensures (omega arith) (node_refused c.parse_factor-in-loop-d.ensures c.in_err-e.was)))))
+    rw (left_as c.from_residual-in_err-e.ensures) (refused (chain_rest (products _ _) 1 8 (omega arith) _ c.in_ok-end.ensures refl (going_refused _ _ _ _ c.loop-d.invariant (chain_operand (products _ _) c.see.ensures c.in_ok-d.was c.product_op.ensures c.in-Some.is c.joined.ensures c.take.ensures (omega arith) (refuses c.in_err-e.ensures)))))
 
 pub parse_term-overflow_add-count : goal.parse_term-overflow_add-count
 parse_term-overflow_add-count t c =
-    omega (arith, c.loop-d.invariant.few, c.loop-d.invariant.room, c.loop-d.invariant.same, c.requires.room, c.requires.small, c.parse_factor.auto.tree, (grew c.parse_factor.ensures (ap node_of c.in_ok-end.was)).room)
+    omega (arith, c.loop-d.invariant.few, c.loop-d.invariant.room, c.loop-d.invariant.same, c.requires.room, c.requires.small, c.parse_factor.auto.tree, (grew c.in_ok-end.ensures refl).room)
 
 pub parse_term-loop-d-smaller : goal.parse_term-loop-d-smaller
 parse_term-loop-d-smaller t c =
-    let q = going_room _ _ _ _ c.loop-d.invariant (room_after c.parse_factor.ensures (ap node_of c.in_ok-end.was) {t = 0} c.requires c.parse_factor.auto.tree (omega arith)) in
-    omega (arith, (grew c.parse_factor-in-loop-d.ensures (ap node_of c.in_ok-e.was)).fewer, one_fewer q c.see.ensures c.in_ok-d.was c.take.ensures)
+    let q = going_room _ _ _ _ c.loop-d.invariant (room_after c.in_ok-end.ensures refl {t = 0} c.requires c.parse_factor.auto.tree (omega arith)) in
+    omega (arith, (grew c.in_ok-e.ensures refl).fewer, one_fewer q c.see.ensures c.in_ok-d.was c.take.ensures)
 
 pub parse_term-loop-d-preserved : goal.parse_term-loop-d-preserved
 parse_term-loop-d-preserved t c =
-    let p = room_after c.parse_factor.ensures (ap node_of c.in_ok-end.was) {t = 0} c.requires c.parse_factor.auto.tree (omega arith) in
+    let p = room_after c.in_ok-end.ensures refl {t = 0} c.requires c.parse_factor.auto.tree (omega arith) in
     let i = c.loop-d.invariant in
     let q = going_room _ _ _ _ i p in
     going_more _ _ _ _ i p
-    (chain_turn (products _ _) c.see.ensures c.in_ok-d.was c.product_op.ensures c.in-Some.is c.joined.ensures c.take.ensures (omega arith) c.parse_factor-in-loop-d.ensures (ap node_of c.in_ok-e.was) (one_fewer q c.see.ensures c.in_ok-d.was c.take.ensures))
+    (chain_turn (products _ _) c.see.ensures c.in_ok-d.was c.product_op.ensures c.in-Some.is c.joined.ensures c.take.ensures (omega arith) c.in_ok-e.ensures refl (one_fewer q c.see.ensures c.in_ok-d.was c.take.ensures))
     c.parse_factor-in-loop-d.auto.tree

@@ -1,15 +1,13 @@
 -- `lists::parse_id` meets its contract.
 use native.Mathlib.Omega.{arith}
-use Rattle.std.proofs.lemmas.Result.{err_from_is_err_and}
 use Rattle.parser.proofs.Seeing.{saw}
-use Rattle.parser.proofs.Answers.{refused, one_fewer}
+use Rattle.parser.proofs.Answers.{refused, one_fewer, left_as}
 use Rattle.parser.proofs.Required.{name_stop, name_other, name_there}
 use Rattle.parser.proofs.lists.parse_id.Goals as goal
 
 pub returns-in_err-c : goal.returns-in_err-c
 returns-in_err-c c =
-    let p = err_from_is_err_and c.from_residual.result c.from_residual.ensures.1 in
-    rw (p.1, p.2) (refused (name_stop c.see.ensures c.in_err-c.was))
+    rw (left_as c.from_residual.ensures) (refused (name_stop c.see.ensures c.in_err-c.was))
 
 pub returns-in_default : goal.returns-in_default
 returns-in_default c =

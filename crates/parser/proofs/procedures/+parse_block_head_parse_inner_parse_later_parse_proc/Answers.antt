@@ -2,8 +2,7 @@
 use mathlib.Core.Path.{refl}
 use native.Mathlib.Numerals.{add-one}
 use native.Mathlib.Omega.{arith}
-use Rattle.parser.proofs.Answers.{refused, grew, room_after, moved, room_at, room_seen, same_left, room_taken, one_fewer}
-use Rattle.parser.proofs.Exits.{left_as, refuses}
+use Rattle.parser.proofs.Answers.{refused, grew, room_after, moved, room_at, room_seen, same_left, room_taken, one_fewer, left_as, refuses}
 use Rattle.parser.proofs.Tries.{none_at, some_at, quiet, quiet_left, room_quiet, nothing}
 use Rattle.parser.proofs.Sequences.{first_refused, second_done}
 use Rattle.parser.proofs.Procs.{proc_deep, proc_head, proc_front, proc_body, proc_quiet_later, proc_quiet, proc_later, proc_none, proc_done, head_large, later_stop, later_there, later_none, inner_stop, inner_none, inner_in, inner_up, inner_absent, front_whole, front_join}

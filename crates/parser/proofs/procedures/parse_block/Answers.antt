@@ -1,8 +1,7 @@
 -- `procedures::parse_block` meets its contract.
 use mathlib.Core.Path.{refl}
 use native.Mathlib.Omega.{arith}
-use Rattle.parser.proofs.Answers.{refused, grew, room_after, room_at}
-use Rattle.parser.proofs.Exits.{left_as, refuses}
+use Rattle.parser.proofs.Answers.{refused, grew, room_after, room_at, left_as, refuses}
 use Rattle.parser.proofs.Tries.{none_at, some_at, quiet, quiet_left, nothing}
 use Rattle.parser.proofs.Procs.{block_front, block_body, block_quiet, block_done}
 use Rattle.parser.proofs.procedures.parse_block.Goals as goal

@@ -2,8 +2,7 @@
 use mathlib.Core.Path.{refl}
 use native.Mathlib.Omega.{arith}
 use Rattle.lexer.specs.Marks.{procedure_word, open_sign, semicolon_sign}
-use Rattle.parser.proofs.Answers.{refused, grew, room_after, room_took, wanted_fewer}
-use Rattle.parser.proofs.Exits.{left_as, refuses}
+use Rattle.parser.proofs.Answers.{refused, grew, room_after, room_took, wanted_fewer, left_as, refuses}
 use Rattle.parser.proofs.Procs.{head_stop, head_name, head_open, head_args, head_end, head_done}
 use Rattle.parser.proofs.procedures.parse_proc_head.Goals as goal
 

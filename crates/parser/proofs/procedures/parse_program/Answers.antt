@@ -2,8 +2,7 @@
 use mathlib.Core.Path.{refl}
 use native.Mathlib.Omega.{arith}
 use Rattle.lexer.specs.Marks.{program_word, semicolon_sign}
-use Rattle.parser.proofs.Answers.{refused, grew, room_after, moved, room_took, wanted_fewer}
-use Rattle.parser.proofs.Exits.{left_as, refuses}
+use Rattle.parser.proofs.Answers.{refused, grew, room_after, moved, room_took, wanted_fewer, left_as, refuses}
 use Rattle.parser.proofs.Procs.{program_stop, program_name, program_end, program_block, from_start}
 use Rattle.parser.proofs.procedures.parse_program.Goals as goal
 

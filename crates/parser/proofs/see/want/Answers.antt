@@ -1,16 +1,15 @@
 -- `see::want` meets its contract.
 use mathlib.Core.Path.{sym, ap, ◌∙◌}
 use borrow.Author.Tests.{eqb-true, eqb-false}
-use Rattle.std.proofs.lemmas.Result.{err_from_is_err_and}
 use Rattle.lexer.specs.Kinds.{kind_of}
 use Rattle.parser.proofs.Tokens.{of_kind, kind_of_token}
 use Rattle.parser.proofs.Seeing.{want_refused, want_took, want_other}
+use Rattle.parser.proofs.Answers.{left_as}
 use Rattle.parser.proofs.see.want.Goals as goal
 
 pub returns-in_err-c : goal.returns-in_err-c
 returns-in_err-c c k q =
-    let p = err_from_is_err_and c.from_residual.result c.from_residual.ensures.1 in
-    rw (p.1, p.2) (want_refused c.see.ensures k c.in_err-c.was)
+    rw (left_as c.from_residual.ensures) (want_refused c.see.ensures k c.in_err-c.was)
 
 pub returns-then-is : goal.returns-then-is
 returns-then-is c k q =

@@ -3,8 +3,7 @@ use mathlib.Core.Path.{refl}
 use Prim.Native.Nat.{◌+◌}
 use native.Mathlib.Omega.{arith}
 use Rattle.lexer.specs.Marks.{becomes_sign}
-use Rattle.parser.proofs.Answers.{refused, grew, room_at, room_took, wanted_fewer}
-use Rattle.parser.proofs.Exits.{left_as, refuses}
+use Rattle.parser.proofs.Answers.{refused, grew, room_at, room_took, wanted_fewer, left_as, refuses}
 use Rattle.parser.proofs.Leaves.{wrote_name}
 use Rattle.parser.proofs.Plain.{assigned_stop, assigned_in, assigned_done}
 use Rattle.parser.proofs.simple.parse_assign.Goals as goal

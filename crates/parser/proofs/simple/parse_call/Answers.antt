@@ -2,8 +2,7 @@
 use mathlib.Core.Path.{refl}
 use native.Mathlib.Omega.{arith}
 use Rattle.lexer.specs.Marks.{open_sign}
-use Rattle.parser.proofs.Answers.{refused, grew, room_after, room_took, room_seen, same_left, one_fewer, wanted_fewer}
-use Rattle.parser.proofs.Exits.{left_as, refuses}
+use Rattle.parser.proofs.Answers.{refused, grew, room_after, room_took, room_seen, same_left, one_fewer, wanted_fewer, left_as, refuses}
 use Rattle.parser.proofs.Plain.{called_refused, called_stop, called_look, called_none, called_some}
 use Rattle.parser.proofs.simple.parse_call.Goals as goal
 

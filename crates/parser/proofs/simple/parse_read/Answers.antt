@@ -5,8 +5,7 @@ use Rattle.lexer.specs.Marks.{open_sign, close_sign}
 use Rattle.tree.specs.Tree.{read_s}
 use Rattle.tree.specs.Layout.{read_kind}
 use Rattle.tree.specs.Nodes.{stmt_node}
-use Rattle.parser.proofs.Answers.{refused, room_took, wanted_fewer}
-use Rattle.parser.proofs.Exits.{left_as}
+use Rattle.parser.proofs.Answers.{refused, room_took, wanted_fewer, left_as}
 use Rattle.parser.proofs.Plain.{mapped, reading_stop, reading_moved}
 use Rattle.parser.proofs.simple.parse_read.Goals as goal
 

@@ -7,8 +7,7 @@ use Rattle.tree.specs.Layout.{no_more, write_kind, count}
 use Rattle.tree.specs.Nodes.{stmt_node}
 use Rattle.tree.specs.Writing.{join}
 use Rattle.parser.proofs.Writing.{wrote_none}
-use Rattle.parser.proofs.Answers.{refused, room_took, wanted_fewer}
-use Rattle.parser.proofs.Exits.{left_as}
+use Rattle.parser.proofs.Answers.{refused, room_took, wanted_fewer, left_as}
 use Rattle.parser.proofs.Plain.{mapped, writing_stop, writing_moved}
 use Rattle.parser.proofs.simple.parse_write.Goals as goal
 

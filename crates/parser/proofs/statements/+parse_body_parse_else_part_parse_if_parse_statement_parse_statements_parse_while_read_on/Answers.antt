@@ -4,8 +4,7 @@ use Prim.Native.Nat.{◌+◌}
 use native.Mathlib.Omega.{arith}
 use Rattle.lexer.specs.Marks.{then_word, do_word, begin_word, end_word}
 use Rattle.parser.proofs.Seeing.{saw}
-use Rattle.parser.proofs.Answers.{refused, grew, room_after, moved, room_at, room_seen, same_left, room_taken, one_fewer, room_took, wanted_fewer}
-use Rattle.parser.proofs.Exits.{left_as, refuses}
+use Rattle.parser.proofs.Answers.{refused, grew, room_after, moved, room_at, room_seen, same_left, room_taken, one_fewer, room_took, wanted_fewer, left_as, refuses}
 use Rattle.parser.proofs.Tries.{none_at, some_at, quiet, quiet_left, try_left, room_quiet, nothing}
 use Rattle.parser.proofs.Flows.{looped_refused, looped_stop, looped_in, looped_quiet, looped_done, else_refused, else_absent, else_there, if_refused, if_stop, if_in, if_quiet_in, if_quiet, if_else_in, if_short, if_long}
 use Rattle.parser.proofs.Bodies.{stmt_deep, stmt_refused, stmt_none, assign_arm, if_arm, while_arm, call_arm, read_arm, write_arm, body_arm, body_stop, body_in, body_quiet, body_open, body_done}

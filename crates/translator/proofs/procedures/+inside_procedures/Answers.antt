@@ -6,7 +6,7 @@ use Rattle.tree.specs.Kinds.{not_kind}
 use Rattle.emission.specs.Passed.{passed}
 use Rattle.translator.proofs.Rowing.{head_numbers}
 use Rattle.translator.proofs.Insides.{consts_at, vars_at, procs_at, vars_fit, procs_fit, consts_stop, vars_can, vars_stop, place_start, procs_made}
-use Rattle.translator.proofs.Nested.{Nested, none_here, of_proc, HasNested, has_nested, head_stop, size_small, jump_stop, inner_start, inside_stop, entered, env_known, end_stop, later_start, later_made}
+use Rattle.translator.proofs.Nested.{none_here, of_proc, has_nested, head_stop, size_small, jump_stop, inner_start, inside_stop, entered, env_known, end_stop, later_start, later_made}
 use Rattle.translator.proofs.procedures.+inside_procedures.Goals as goal
 
 pub inside-after-vars-requires : goal.inside-after-vars-requires

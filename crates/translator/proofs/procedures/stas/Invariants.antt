@@ -1,5 +1,4 @@
 -- The proof of `stas`.
-use Prim.Native.Nat.{◌+◌, ◌≤◌}
 use Rattle.translator.specs.Translate.{stas}
 use Rattle.emission.specs.Drafting.{Sofar}
 use Rattle.translator.proofs.Ending.{left}
