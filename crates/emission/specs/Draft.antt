@@ -9,7 +9,7 @@ use Rattle.tree.specs.Layout.{half}
 use Rattle.pcode.specs.Code.{Op, NIL, LIT, OPR, LOD, STO, STA, CAL, INT, JMP, JPC, RED, WRT, Instr}
 use Rattle.emission.specs.Pieces.{Out, made, refuse}
 
--- a kind's number in the draft: that of `PcodeType` as a byte
+-- a kind's number in the draft: that of `PcodeType`; no NIL is drafted
 abbrev pub op_no : Op → ℕ
 op_no LIT = 0
 op_no OPR = 1
@@ -22,7 +22,7 @@ op_no JMP = 7
 op_no JPC = 8
 op_no RED = 9
 op_no WRT = 10
-op_no NIL = 255
+op_no NIL = 11
 
 -- a value by its halves
 abbrev pub whole : ℕ → ℕ → ℕ

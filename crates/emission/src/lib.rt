@@ -12,7 +12,7 @@ ghost use Rattle.pcode.specs.Coded.{op_of, oper};
 ghost use Rattle.symbols.specs.Symbols.{Row};
 ghost use Rattle.emission.specs.Pieces.{emit, emit_oper};
 ghost use Rattle.emission.specs.Statements.{Env as Here, reach};
-ghost use Rattle.emission.specs.Draft.{whole, Emits};
+ghost use Rattle.emission.specs.Draft.{op_no, whole, Emits};
 
 use numbers::limits::MAX_CODE;
 use numbers::refusal::Refusal;
@@ -30,6 +30,19 @@ pub struct Env<'a> {
     pub level: u32,
 }
 
+// What stands in the draft for NIL, whose own number is below 0.
+const NIL: u32 = 11;
+
+// A kind's number in the draft.
+fn drafted(kind: Kind) -> u32
+    ensures { result ≡ op_no (op_of kind) }
+{
+    match kind {
+        Kind::Nil => NIL,
+        kind => kind as u32,
+    }
+}
+
 // One instruction more, with an operand by its halves.
 pub fn emit_wide(
     draft: &mut [u32],
@@ -45,12 +58,7 @@ pub fn emit_wide(
     if n >= MAX_CODE {
         return Err(Refusal::TooManyInstructions);
     }
-    draft[4 * n..4 * n + 4].copy_from_slice(&[
-        u32::from(kind.number().cast_unsigned()),
-        level,
-        low,
-        high,
-    ]);
+    draft[4 * n..4 * n + 4].copy_from_slice(&[drafted(kind), level, low, high]);
     Ok(n + 1)
 }
 

@@ -38,29 +38,28 @@ module _ {A : Type 0} (f : Instr → A) where
   pub hand_all : {draft : List ℕ} {n : ℕ} {lent xs : List A} {k : ℕ} → Handed f draft n lent xs k → n ≤ k → (c : List Instr) → Drafts draft n c → xs ≡ onto lent (map f c)
   hand_all h l c d = put_all (h.put c d) (omega (arith, length-map c f, d.length_is))
 
--- a kind that is its own number
-op_small : (o : Op) → kind_no o ≡ pos (op_no o) → op_no o ≤ 10
-unfolding kind_no
-op_small NIL e = absurd (cc e)
-op_small LIT e = omega arith
-op_small OPR e = omega arith
-op_small LOD e = omega arith
-op_small STO e = omega arith
-op_small STA e = omega arith
-op_small CAL e = omega arith
-op_small INT e = omega arith
-op_small JMP e = omega arith
-op_small JPC e = omega arith
-op_small RED e = omega arith
-op_small WRT e = omega arith
+-- a kind's number in the draft
+op_small : (o : Op) → op_no o ≤ 11
+op_small NIL = omega arith
+op_small LIT = omega arith
+op_small OPR = omega arith
+op_small LOD = omega arith
+op_small STO = omega arith
+op_small STA = omega arith
+op_small CAL = omega arith
+op_small INT = omega arith
+op_small JMP = omega arith
+op_small JPC = omega arith
+op_small RED = omega arith
+op_small WRT = omega arith
 
 -- what the loop reads of the instruction k
 module _ {draft : List ℕ} {n : ℕ} {c : List Instr} (k : ℕ) (d : Drafts draft n c) (l : k < n) where
   pub in_draft : 4 * k + 4 ≤ length draft
   in_draft = (four_at k d l).fits
 
-  pub kind_small : get_or draft (4 * k) 0 ≤ 10
-  kind_small = omega (arith, (four_at k d l).kind, op_small (get_or c k nil).op (d.placed k l).kind)
+  pub kind_small : get_or draft (4 * k) 0 ≤ 11
+  kind_small = omega (arith, (four_at k d l).kind, op_small (get_or c k nil).op)
 
   pub kind_is : kind_no (get_or c k nil).op ≡ pos (get_or draft (4 * k) 0)
   kind_is = (d.placed k l).kind ∙ ap pos (sym (four_at k d l).kind)
