@@ -1,5 +1,5 @@
-// What the program `loopgarret` says and how it takes its words, as functions on slices: text on a page, the table of
-// numbers, the listing of a code list, the words of the command line, the lines of the entries; reading a file whole, and the rooms that the engine is lent.
+// What the programs say and how they take their words: text on a page, the table of numbers, the listing of a code list,
+// the words of the command line, the lines of the entries; and reading a file whole.
 #![tactic(auto)]
 
 pub mod entries;

@@ -1,4 +1,5 @@
-// A code list as text, a line to an instruction: index, kind, level and operand, laid out as the Rust's show_pcode_list does.
+// A code list as text, a line to an instruction: index, kind, level and operand, laid out as the Rust's show_pcode_list
+// does.
 ghost use Rattle.std.specs.Prelude.{◌≡◌};
 ghost use Rattle.numbers.specs.Bytes.{bytes};
 ghost use Rattle.pcode.specs.Code.{kind_no};

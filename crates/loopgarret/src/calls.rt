@@ -23,7 +23,13 @@ pub fn compiled(
 pub fn run_once(code: Code<'_>, entries: &[u8], budget: u32, out: &mut [u8]) -> Ended {
     let mut cells = [0; CELLS];
     machine::run(
-        code.kinds, code.levels, code.operands, entries, budget, out, &mut cells,
+        code.kinds,
+        code.levels,
+        code.operands,
+        entries,
+        budget,
+        out,
+        &mut cells,
     )
 }
 

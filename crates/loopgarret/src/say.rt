@@ -72,7 +72,11 @@ fn put_reason(rt: &HostRuntime, page: &mut Page<'_>, reason: Error) {
 pub fn not_understood(rt: &HostRuntime, word: &[u8]) -> u8 {
     complain_of(
         rt,
-        &[b"loopgarret: this word cannot be taken here: ", word, TRY_HELP],
+        &[
+            b"loopgarret: this word cannot be taken here: ",
+            word,
+            TRY_HELP,
+        ],
     )
 }
 
@@ -88,7 +92,10 @@ pub fn too_long(rt: &HostRuntime) -> u8 {
 pub fn no_number(rt: &HostRuntime) -> u8 {
     complain_of(
         rt,
-        &[b"loopgarret: --budget wants a number from 0 to 4294967295.", TRY_HELP],
+        &[
+            b"loopgarret: --budget wants a number from 0 to 4294967295.",
+            TRY_HELP,
+        ],
     )
 }
 
@@ -99,7 +106,10 @@ pub fn no_command(rt: &HostRuntime, word: &[u8]) -> u8 {
 
 // A command that wants a sheet has none.
 pub fn no_sheet(rt: &HostRuntime) -> u8 {
-    complain_of(rt, &[b"loopgarret: the name of a sheet is missing.", TRY_HELP])
+    complain_of(
+        rt,
+        &[b"loopgarret: the name of a sheet is missing.", TRY_HELP],
+    )
 }
 
 // A command that wants no sheet has one.

@@ -23,7 +23,13 @@ pub fn answer_compile(line: &[u8], answer: &mut Page<'_>) -> Option<()> {
     let mut table = [0; TABLE_PLACES];
     let mut draft = [0; DRAFT_PLACES];
     let made = engine::compile(
-        text, &mut kinds, &mut levels, &mut operands, &mut tree, &mut table, &mut draft,
+        text,
+        &mut kinds,
+        &mut levels,
+        &mut operands,
+        &mut tree,
+        &mut table,
+        &mut draft,
     );
     let code = Code {
         kinds: kinds.get(..made.length)?,

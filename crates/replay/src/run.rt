@@ -25,7 +25,13 @@ pub fn answer_run(line: &[u8], answer: &mut Page<'_>) -> Option<()> {
     let mut out = [0; MOST_BYTES];
     let mut cells = [0; CELLS];
     let ended = machine::run(
-        code.kinds, code.levels, code.operands, input, budget, &mut out[..room], &mut cells,
+        code.kinds,
+        code.levels,
+        code.operands,
+        input,
+        budget,
+        &mut out[..room],
+        &mut cells,
     );
     put_ended(answer, name, b" run", ended, &out, &cells)
 }

@@ -25,7 +25,14 @@ pub fn answer_walk(line: &[u8], answer: &mut Page<'_>) -> Option<()> {
     let mut table = [0; TABLE_PLACES];
     let mut draft = [0; DRAFT_PLACES];
     let ended = engine::walk(
-        text, input, budget, &mut out[..room], &mut vars, &mut tree, &mut table, &mut draft,
+        text,
+        input,
+        budget,
+        &mut out[..room],
+        &mut vars,
+        &mut tree,
+        &mut table,
+        &mut draft,
     );
     put_ended(answer, name, b" walk", ended, &out, &vars)
 }

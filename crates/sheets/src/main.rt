@@ -1,5 +1,5 @@
-// Replays the example sheets: each with its entries, held to the output and the number that it must give. The words are four
-// to a case: a sheet, its entries, its output, its number.
+// Replays the example sheets: each with its entries, held to the output and the number that it must give. The words are
+// four to a case: a sheet, its entries, its output, its number.
 #![tactic(auto)]
 
 ghost use Rattle.std.specs.Prelude.{◌<◌};
@@ -28,7 +28,13 @@ fn gives(text: &[u8], entries: &[u8], wanted: &[u8], number: u8) -> bool {
     let mut table = [0; TABLE_PLACES];
     let mut draft = [0; DRAFT_PLACES];
     let made = engine::compile(
-        text, &mut kinds, &mut levels, &mut operands, &mut tree, &mut table, &mut draft,
+        text,
+        &mut kinds,
+        &mut levels,
+        &mut operands,
+        &mut tree,
+        &mut table,
+        &mut draft,
     );
     if made.number != 0 {
         return false;
