@@ -1,12 +1,13 @@
 -- Laws of pieces of code and of the draft that they are written to.
-use Rattle.std.specs.Prelude.{◌≡◌, refl, List, [], ◌∷◌, ◌++◌, ℕ, ◌+◌, ◌-◌, ◌*◌, ◌/◌, ◌%◌, ◌≤◌, ◌<◌, ℤ, pos, length, take, Result, Ok, Err}
+use Rattle.std.specs.Prelude.{◌≡◌, refl, List, [], ◌∷◌, ◌++◌, ℕ, ◌+◌, ◌-◌, ◌*◌, ◌/◌, ◌%◌, ◌≤◌, ◌<◌, ℤ, pos, length, take, set, Result, Ok, Err}
 use Rattle.std.proofs.Common.{sym, ap, ◌∙◌, append_assoc, arith, length-append, lt-ltb, le-ltb, le-leb}
 use Rattle.std.proofs.lemmas.Bool.{lt-leb}
-use Rattle.numbers.specs.Limits.{max_code, draft_share}
+use Rattle.numbers.specs.Limits.{max_code, draft_places, draft_share}
 use Rattle.numbers.specs.declared.refusal.Refusal.{Refusal}
 use Rattle.numbers.specs.declared.refusal.Refusal.TheVariants.{TooManyInstructions, LevelAbove}
 use Rattle.numbers.specs.Refusals.{number_of}
 use Rattle.tree.specs.Layout.{half}
+use Rattle.tree.specs.Writing.{four_put}
 use Rattle.pcode.specs.Code.{Op, Instr, ins}
 use Rattle.symbols.specs.Symbols.{Row}
 use Rattle.emission.specs.Pieces.{Out, made, refuse, Piece, before, onward, ◌⨾◌, nothing, refusing, emit}
@@ -29,10 +30,10 @@ emitted : (o : Op) (l : ℕ) (a : ℤ) (n : ℕ) → n < max_code → emit o l a
 unfolding emit
 emitted o l a n h = rw (lt-ltb n max_code h, emit)
 
--- the four numbers are put down
-pub put : (o : Op) (l low high n : ℕ) (xs ys : List ℕ) → low < half → n < max_code → take (draft_share * n + 4) ys ≡ take (draft_share * n) xs ++ (op_no o ∷ l ∷ low ∷ high ∷ []) → Emits (emit o l (pos (whole low high)) n) n xs ys (Ok (n + 1))
+-- the four numbers lie there
+pub put_there : (o : Op) (l low high n : ℕ) (xs ys : List ℕ) → low < half → n < max_code → take (draft_share * n + 4) ys ≡ take (draft_share * n) xs ++ (op_no o ∷ l ∷ low ∷ high ∷ []) → Emits (emit o l (pos (whole low high)) n) n xs ys (Ok (n + 1))
 unfolding drafted
-put o l low high n xs ys b h lies =
+put_there o l low high n xs ys b h lies =
     let ends : draft_share * (n + 1) ≡ draft_share * n + 4 = omega arith in
     let el : whole low high % half ≡ low = omega arith in
     let eh : whole low high / half ≡ high = omega arith in
@@ -44,6 +45,11 @@ put o l low high n xs ys b h lies =
       lies = rw (ends, el, eh) lies;
       most = omega arith;
     })
+
+-- they are put down, one by one
+pub put : (o : Op) (l low high n : ℕ) (xs : List ℕ) → low < half → draft_places ≤ length xs → n < max_code
+    → Emits (emit o l (pos (whole low high)) n) n xs (set (set (set (set xs (4 * n) (op_no o)) (4 * n + 1) l) (4 * n + 2) low) (4 * n + 3) high) (Ok (n + 1))
+put o l low high n xs b room h = put_there o l low high n xs _ b h (four_put xs (draft_share * n) (op_no o) l low high (omega arith))
 
 -- or there is no place left
 pub full : (o : Op) (l : ℕ) (a : ℤ) (n : ℕ) (xs ys : List ℕ) → max_code ≤ n → Emits (emit o l a n) n xs ys (Err TooManyInstructions)
