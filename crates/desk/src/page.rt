@@ -2,6 +2,9 @@
 // message of several parts is written out in one go.
 ghost use Rattle.std.specs.Prelude.{◌≡◌, ◌+◌, ◌≤◌, length, []};
 
+// Bytes that a column is wide.
+const COLUMN: usize = 4;
+
 // The text is the room's first `len` bytes.
 #[derive(Drop)]
 pub struct Page<'a> {
@@ -69,8 +72,8 @@ impl<'a> Page<'a> {
     {
         let mut figures = [0; 20];
         let k = io::decimal(n, &mut figures);
-        if k < 4 {
-            self.put(&[b' '; 4][k..]);
+        if k < COLUMN {
+            self.put(&[b' '; COLUMN][k..]);
         }
         self.put(&figures[..k]);
     }
