@@ -18,7 +18,7 @@ use Rattle.translator.specs.declared.Translated.{Translated}
 use Rattle.outcomes.specs.Compile.{Compiled, code_of, compile}
 use Rattle.outcomes.specs.Outcomes.{CompileOutcome, Work, code_holds, work_holds, compile_leaves, compile_outcome}
 use Rattle.engine.specs.declared.entries.Compiled.{Compiled as Answer}
-use Rattle.engine.specs.Entries.{number_in, length_in, answer_of, compiled_of, Taken}
+use Rattle.engine.specs.Entries.{answer_of, compiled_of, Taken}
 
 -- working room of n places at the end: zeros, and beyond them what was lent
 pub wiped : (n m : ℕ) (lent : List ℕ) {xs : List ℕ} → m ≡ n → xs ≡ replicate m 0 → xs ++ drop n lent ≡ onto lent (replicate n 0)

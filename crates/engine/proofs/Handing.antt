@@ -23,10 +23,6 @@ pub record Handed {A : Type 0} (f : Instr → A) (draft : List ℕ) (n : ℕ) (l
   pub put : (c : List Instr) → Drafts draft n c → Put (map f c) lent k xs
 
 module _ {A : Type 0} (f : Instr → A) where
-  -- none yet
-  pub hand_none : (draft : List ℕ) (n : ℕ) (lent : List A) → n ≤ length lent → Handed f draft n lent lent 0
-  hand_none draft n lent h = record { most = omega arith; same = refl; put = λ c d. record { most = omega arith; fits = omega (arith, length-map c f, d.length_is); is = refl } }
-
   -- one more
   pub hand_more : {draft : List ℕ} {n : ℕ} {lent xs : List A} {k : ℕ} (z : A) → Handed f draft n lent xs k → k < n → ((c : List Instr) × Drafts draft n c) → ((c : List Instr) → Drafts draft n c → f (get_or c k nil) ≡ z)
       → Handed f draft n lent (set xs k z) (k + 1)

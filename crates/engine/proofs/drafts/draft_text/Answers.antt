@@ -1,7 +1,5 @@
 -- The proof of `draft_text`.
-use mathlib.Core.Path.{◌≡◌}
 use native.Mathlib.Omega.{arith}
-use Rattle.std.specs.Prelude.{Ok, Err}
 use Rattle.std.proofs.lemmas.Result.{err_from_is_err_and}
 use Rattle.engine.proofs.Drafting.{Standing, standing, passed_on, drafting}
 use Rattle.engine.proofs.drafts.draft_text.Goals as goal

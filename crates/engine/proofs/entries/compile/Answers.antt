@@ -1,12 +1,11 @@
 -- The proof of `compile`.
-use mathlib.Core.Path.{◌≡◌, refl, sym, ap, ◌∙◌}
-use mathlib.Core.Bool.{true}
+use mathlib.Core.Path.{refl, sym, ap, ◌∙◌}
 use native.Mathlib.Omega.{arith}
-use lib.ListN.{length, take-append-drop}
+use lib.ListN.{length}
 use Rattle.pcode.specs.Code.{Code}
 use Rattle.outcomes.specs.Compile.{code_of, compile}
 use Rattle.outcomes.specs.Outcomes.{Work}
-use Rattle.engine.specs.Entries.{taken, Taken}
+use Rattle.engine.specs.Entries.{taken}
 use Rattle.engine.proofs.Compiling.{leaves, wiped, whole, roomy, cramped, code_short, work_short, tree_short, table_short, draft_short, all_held, all_long}
 use Rattle.engine.proofs.entries.compile.Goals as goal
 use Rattle.engine.proofs.entries.compile.Goals.{After-answer-compiled}
