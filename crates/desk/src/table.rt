@@ -1,6 +1,6 @@
 // The table of numbers, the message of a refusal, and the status that the program ends with.
 ghost use Rattle.std.specs.Prelude.{◌≡◌, length};
-ghost use Rattle.desk.specs.Page.{Put};
+ghost use Rattle.desk.specs.Page.{Put, SameRoom};
 ghost use Rattle.desk.specs.Table.{meaning_of, row, refusal, status_of};
 
 use crate::page::Page;
@@ -63,7 +63,9 @@ impl Page<'_> {
     }
 
     // Puts the table of all numbers.
-    pub fn put_table(&mut self) {
+    pub fn put_table(&mut self)
+        ensures { SameRoom self.old self.new }
+    {
         for number in 0..=LAST {
             self.put_row(number);
         }
