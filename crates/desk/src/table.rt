@@ -4,9 +4,14 @@ ghost use Rattle.desk.specs.Page.{Put, SameRoom};
 ghost use Rattle.desk.specs.Table.{meaning_of, row, refusal, status_of};
 
 use crate::page::Page;
+use numbers::refusal::Refusal;
 
 // The greatest number.
-const LAST: u8 = 25;
+const LAST: u8 = Refusal::ProcedureInTree as u8;
+
+// The first and the last number of a refused run.
+const BUDGET_SPENT: u8 = Refusal::BudgetSpent as u8;
+const OUTPUT_FULL: u8 = Refusal::OutputFull as u8;
 
 // What a number means; nothing where it means nothing.
 #[tactic(auto, unfolding(crate::specs::Table::meaning_of, crate::specs::Table::line_at, crate::specs::Table::line_span, crate::specs::Table::after_line, crate::specs::Table::lines, crate::specs::Table::meanings, numbers::specs::Bytes::bytes))]
@@ -91,7 +96,7 @@ pub fn status_of(number: u8) -> u8
 {
     match number {
         0 => 0,
-        16..=23 => 2,
+        BUDGET_SPENT..=OUTPUT_FULL => 2,
         _ => 1,
     }
 }
