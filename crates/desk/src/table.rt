@@ -11,6 +11,7 @@ const LAST: u8 = Refusal::ProcedureInTree as u8;
 
 // The first and the last number of a refused run.
 const BUDGET_SPENT: u8 = Refusal::BudgetSpent as u8;
+
 const OUTPUT_FULL: u8 = Refusal::OutputFull as u8;
 
 // What a number means; nothing where it means nothing.
