@@ -25,6 +25,7 @@ then {a} {b} {p} first second = record {
       ∙ rw (first.kept, first.holds)
       (over (length p.room.now) (written p ++ a) b ∙ ap (λ (l : List ℕ). take (length p.room.now) l) (append_assoc (written p) a b));
   kept = second.kept ∙ first.kept;
+  same = second.same ∙ first.same;
 }
 
 -- the text is what a definition says

@@ -8,10 +8,15 @@ use Rattle.desk.specs.declared.page.Page.{Page}
 abbrev pub written : Page → List ℕ
 written p = take p.len p.room.now
 
--- a text was put behind that of the page, as far as there is room
+-- a page over the same room, as long as before
+abbrev pub SameRoom : Page → Page → Type 0
+SameRoom before after = (length after.room.now ≡ length before.room.now) × (after.room.ghost_name ≡ before.room.ghost_name)
+
+-- a text was put behind that of the page, as far as there is room, in the same room
 pub record Put (text : List ℕ) (before after : Page) : Type 0 where
   pub holds : written after ≡ take (length before.room.now) (written before ++ text)
   pub kept : length after.room.now ≡ length before.room.now
+  pub same : after.room.ghost_name ≡ before.room.ghost_name
 
 -- a count in decimal
 unfoldable pub count : ℕ → List ℕ

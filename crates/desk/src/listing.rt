@@ -4,7 +4,7 @@ ghost use Rattle.std.specs.Prelude.{◌≡◌};
 ghost use Rattle.numbers.specs.Bytes.{bytes};
 ghost use Rattle.pcode.specs.Code.{kind_no};
 ghost use Rattle.pcode.specs.Coded.{op_of};
-ghost use Rattle.desk.specs.Page.{Put};
+ghost use Rattle.desk.specs.Page.{Put, SameRoom};
 ghost use Rattle.desk.specs.Listing.{letters, line_text};
 
 use crate::page::Page;
@@ -47,7 +47,9 @@ impl Page<'_> {
     }
 
     // Puts the lines of a code list, as long as the shortest of its three parts.
-    pub fn put_listing(&mut self, code: Code<'_>) {
+    pub fn put_listing(&mut self, code: Code<'_>)
+        ensures { SameRoom self.old self.new }
+    {
         for i in 0..code.len() {
             self.put_line(i as u64, code.get(i));
         }

@@ -1,6 +1,6 @@
 // A page: a lent slice whose first bytes are text. What is put on it goes behind them, as far as there is room, so that a
 // message of several parts is written out in one go.
-ghost use Rattle.std.specs.Prelude.{◌≡◌, ◌+◌, ◌≤◌, length, []};
+ghost use Rattle.std.specs.Prelude.{◌≡◌, ◌+◌, ◌≤◌, length, take, []};
 
 // Bytes that a column is wide.
 const COLUMN: usize = 4;
@@ -18,9 +18,21 @@ impl<'a> Page<'a> {
 
     // A page with no text yet.
     pub fn new(room: &'a mut [u8]) -> Page<'a>
-        ensures { written result ≡ [] }
+        ensures same_reference { result.room.ghost_name ≡ room.entry.ghost_name }
+        ensures kept { length result.room.now ≡ length room.old }
+        ensures text { written result ≡ [] }
     {
-        Page { room, len: 0 }
+        Page::behind(room, 0)
+    }
+
+    // A page whose text is the room's first `at` bytes, or all of the room where it has fewer.
+    pub fn behind(room: &'a mut [u8], at: usize) -> Page<'a>
+        ensures same_reference { result.room.ghost_name ≡ room.entry.ghost_name }
+        ensures kept { length result.room.now ≡ length room.old }
+        ensures text { written result ≡ take at room.old }
+    {
+        let len = at.min(room.len());
+        Page { room, len }
     }
 
     // How many bytes more there is room for.

@@ -1,12 +1,18 @@
 // The table of numbers, the message of a refusal, and the status that the program ends with.
 ghost use Rattle.std.specs.Prelude.{◌≡◌, length};
-ghost use Rattle.desk.specs.Page.{Put};
+ghost use Rattle.desk.specs.Page.{Put, SameRoom};
 ghost use Rattle.desk.specs.Table.{meaning_of, row, refusal, status_of};
 
 use crate::page::Page;
+use numbers::refusal::Refusal;
 
 // The greatest number.
-const LAST: u8 = 25;
+const LAST: u8 = Refusal::ProcedureInTree as u8;
+
+// The first and the last number of a refused run.
+const BUDGET_SPENT: u8 = Refusal::BudgetSpent as u8;
+
+const OUTPUT_FULL: u8 = Refusal::OutputFull as u8;
 
 // What a number means; nothing where it means nothing.
 #[tactic(auto, unfolding(crate::specs::Table::meaning_of, crate::specs::Table::line_at, crate::specs::Table::line_span, crate::specs::Table::after_line, crate::specs::Table::lines, crate::specs::Table::meanings, numbers::specs::Bytes::bytes))]
@@ -63,7 +69,9 @@ impl Page<'_> {
     }
 
     // Puts the table of all numbers.
-    pub fn put_table(&mut self) {
+    pub fn put_table(&mut self)
+        ensures { SameRoom self.old self.new }
+    {
         for number in 0..=LAST {
             self.put_row(number);
         }
@@ -89,7 +97,7 @@ pub fn status_of(number: u8) -> u8
 {
     match number {
         0 => 0,
-        16..=23 => 2,
+        BUDGET_SPENT..=OUTPUT_FULL => 2,
         _ => 1,
     }
 }

@@ -69,7 +69,7 @@ pub fn choice_of(word: &[u8]) -> Choice
 }
 
 // The greatest number.
-const MOST: u64 = 4294967295;
+const MOST: u64 = u32::MAX as u64;
 
 // The number that a word means: digits alone, up to 4,294,967,295.
 pub fn count_of(word: &[u8]) -> Option<u32>

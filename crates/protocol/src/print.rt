@@ -1,4 +1,6 @@
 // The words of an answer, each put on the answer's page. What does not fit is left out.
+ghost use Rattle.desk.specs.Page.{SameRoom};
+
 use desk::page::Page;
 use numbers::screen::decimal_length;
 use pcode::Code;
@@ -9,7 +11,9 @@ const SPACES: usize = 2;
 const DIGITS: [u8; 16] = *b"0123456789abcdef";
 
 // Bytes in hexadecimal, two digits each; `-` where there are none.
-pub fn put_bytes(page: &mut Page<'_>, s: &[u8]) {
+pub fn put_bytes(page: &mut Page<'_>, s: &[u8])
+    ensures { SameRoom page.old page.new }
+{
     if s.is_empty() {
         page.put(b"-");
     }
@@ -19,14 +23,18 @@ pub fn put_bytes(page: &mut Page<'_>, s: &[u8]) {
 }
 
 // A decimal number, where there is room for it as on the screen.
-pub fn put_number(page: &mut Page<'_>, x: i64) {
+pub fn put_number(page: &mut Page<'_>, x: i64)
+    ensures { SameRoom page.old page.new }
+{
     if decimal_length(x) <= page.left().saturating_sub(SPACES) {
         page.put_number(x);
     }
 }
 
 // Values joined by `,`, trailing zeros left off; `-` where all are zero.
-pub fn put_values(page: &mut Page<'_>, values: &[i64]) {
+pub fn put_values(page: &mut Page<'_>, values: &[i64])
+    ensures { SameRoom page.old page.new }
+{
     let Some(last) = values.iter().rposition(|x| *x != 0) else {
         page.put(b"-");
         return;
@@ -39,7 +47,9 @@ pub fn put_values(page: &mut Page<'_>, values: &[i64]) {
 }
 
 // A blank and a count.
-pub fn put_count(page: &mut Page<'_>, n: usize) {
+pub fn put_count(page: &mut Page<'_>, n: usize)
+    ensures { SameRoom page.old page.new }
+{
     page.put(b" ");
     if let Ok(n) = i64::try_from(n) {
         put_number(page, n);
@@ -47,7 +57,9 @@ pub fn put_count(page: &mut Page<'_>, n: usize) {
 }
 
 // Places joined by `;`, each `KIND,LEVEL,OPERAND`; `-` where there are none.
-pub fn put_code(page: &mut Page<'_>, code: Code<'_>) {
+pub fn put_code(page: &mut Page<'_>, code: Code<'_>)
+    ensures { SameRoom page.old page.new }
+{
     if code.len() == 0 {
         page.put(b"-");
     }

@@ -1,5 +1,6 @@
 // What the words of a case mean.
 ghost use Rattle.std.specs.Prelude.{◌≤◌, length, IfSome};
+ghost use Rattle.protocol.specs.Codes.{EquallyLong};
 
 use numbers::line::number;
 use pcode::Code;
@@ -55,22 +56,23 @@ fn kind_of(z: i64) -> i8 {
 fn read_place(s: &[u8]) -> Option<(i8, u16, i64)> {
     let mut parts = s.split(|b| *b == b',');
     let kind = number(parts.next()?)?;
-    let level = read_number(parts.next()?, 65535)?;
+    let level = u16::try_from(number(parts.next()?)?).ok()?;
     let operand = number(parts.next()?)?;
     match parts.next() {
         Some(_) => None,
-        None => Some((kind_of(kind), level as u16, operand)),
+        None => Some((kind_of(kind), level, operand)),
     }
 }
 
-// Places joined by `;`, read into three lent lists; `-` where there are none.
+// Places joined by `;`, read into three lent lists; `-` where there are none. None also where the levels or the operands
+// have less room than the kinds.
 pub fn read_code<'a>(
     word: &[u8],
     kinds: &'a mut [i8],
     levels: &'a mut [u16],
     operands: &'a mut [i64],
 ) -> Option<Code<'a>>
-    ensures { IfSome result (λ code. length code.kinds.now ≤ length kinds.old) }
+    ensures { IfSome result (λ code. (length code.kinds.now ≤ length kinds.old) × EquallyLong code) }
 {
     if word == b"-".as_slice() {
         return Some(Code {
@@ -78,6 +80,9 @@ pub fn read_code<'a>(
             levels: &[],
             operands: &[],
         });
+    }
+    if levels.len() < kinds.len() || operands.len() < kinds.len() {
+        return None;
     }
     let mut n = 0;
     for place in word.split(|b| *b == b';') {

@@ -90,21 +90,23 @@ impl Lines<'_> {
         answer_line(output, &self.room[..self.have], answer)
     }
 
-    // Answers the lines that are whole, and moves what is left to the front.
+    // Answers the lines that are whole, and moves what is left to the front. A failed write does not keep the later lines
+    // from their answers; the first failure is returned.
     fn answer_whole<P: Print>(&mut self, output: &P, answer: &mut [u8]) -> io::Result<()> {
         let have = self.have;
         let mut at = 0;
+        let mut outcome = Ok(());
         while let Some(n) = line_end(&self.room[at..have]) {
             let end = at + n;
             if !self.is_long {
-                answer_line(output, &self.room[at..end], answer)?;
+                outcome = outcome.and(answer_line(output, &self.room[at..end], answer));
             }
             self.is_long = false;
             at = end + 1;
         }
         self.room.copy_within(at..have, 0);
         self.have = have - at;
-        Ok(())
+        outcome
     }
 
     // A line that fills the room is too long: it is answered by its name, and what remains of it is skipped.
@@ -121,8 +123,9 @@ impl Lines<'_> {
     }
 }
 
-// Answers every case on standard input, up to the first error that reading or writing gives. A loop has to end: this one
-// counts its turns, up to a number that no run comes to.
+// Answers every case on standard input, and returns the first error that reading or writing gives. Such an error ends the
+// reading after the turn that it comes in. A loop has to end: this one counts its turns, up to a number that no run comes
+// to.
 pub fn serve<R: Input + Print>(rt: &R, text: &mut [u8], answer: &mut [u8]) -> io::Result<()> {
     let mut input = rt.reader();
     let mut lines = Lines {
@@ -139,8 +142,8 @@ pub fn serve<R: Input + Print>(rt: &R, text: &mut [u8], answer: &mut [u8]) -> io
                 return Err(error);
             }
         }
-        lines.answer_whole(rt, answer)?;
-        lines.cut_long(rt, answer)?;
+        let answered = lines.answer_whole(rt, answer);
+        answered.and(lines.cut_long(rt, answer))?;
     }
     Ok(())
 }
