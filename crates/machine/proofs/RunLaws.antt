@@ -4,7 +4,7 @@ use mathlib.Core.List.{List, ◌++◌}
 use Prim.Native.Nat.{ℕ, zero, suc, ◌+◌, ◌-◌, ◌≤◌, ◌<◌}
 use native.Mathlib.Omega.{arith}
 use lib.IntN.{ℤ, pos}
-use lib.ListN.{length, take, drop, replicate, take-append-drop, length-replicate}
+use lib.ListN.{length, take, drop, replicate, take-append-drop}
 use lib.Seq.{length-take-le, drop-drop}
 use borrow.Author.Tests.{le-leb, lt-leb}
 use Rattle.numbers.specs.Panel.{done, too_many_instructions, budget_spent, room_too_small}
@@ -176,10 +176,6 @@ listed code e h = record {
 -- the first 4,096 cells, zeroed, and the others
 unfoldable pub zeros : List ℤ
 zeros = replicate max_cells (pos 0)
-
-pub zeros_length : length zeros ≡ max_cells
-unfolding zeros
-zeros_length = length-replicate max_cells (pos 0)
 
 pub zeroed_by : (cells : List ℤ) {part part' : List ℤ} → max_cells ≤ length cells → part ≡ take max_cells cells → part' ≡ replicate (length part) (pos 0) → part' ≡ zeros
 unfolding zeros
