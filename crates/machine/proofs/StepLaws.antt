@@ -191,6 +191,15 @@ unfolding inside
 inside_in places (pos a) h k = (lt-ltb a places k, refl)
 inside_in places (negsuc a) h k = absurd (clash h)
 
+pub inside_some : (places : ℕ) (a : ℤ) → inside places a ≡ true → 0 < places
+unfolding inside
+inside_some places (pos t) h = omega (arith, ltb-true t places h)
+inside_some places (negsuc t) h = absurd (clash (sym h))
+
+pub first_in : (places : ℕ) (a : ℤ) → a ≡ pos 0 → 0 < places → inside places a ≡ true
+unfolding inside
+first_in places a e h = rw e (lt-ltb 0 places h)
+
 -- a jump
 pub went_out : (places : ℕ) (a : ℤ) (f : Frame) → inside places a ≡ false → Err PlaceOutside ≡ went places a f
 unfolding inside went

@@ -3,7 +3,7 @@ ghost use Rattle.std.specs.Prelude.{◌≡◌, List, ℕ, ◌<◌, ◌≤◌, po
 ghost use Rattle.pcode.specs.Code.{Instr};
 ghost use Rattle.machine.specs.Machine.{up, testing, calling, returning};
 ghost use Rattle.machine.specs.Frames.{links_end, Steady, Reaches};
-ghost use Rattle.machine.specs.Steps.{Did, Inside, arrived, went, linked};
+ghost use Rattle.machine.specs.Steps.{Did, Inside, went, linked};
 
 use crate::frames::{Cells, Frame, from, up};
 use crate::steps::Does;
@@ -24,22 +24,15 @@ fn target(places: usize, a: i64) -> Result<usize, Refusal>
     Ok(to)
 }
 
-// To a place of the list.
-fn arrive(to: usize, f: Frame) -> Does
-    ensures { result ≡ arrived to f }
-{
-    if to == 0 {
-        return Does::Halt(f);
-    }
-    Does::Next(f.jumped(to))
-}
-
-// To a target within the list.
+// To a target within the list. The halt is asked for first: docs/PERFORMANCE.md.
 pub fn goto(places: usize, a: i64, f: Frame) -> Result<Does, Refusal>
     ensures { result ≡ went places a f }
 {
+    if a == 0 && 0 < places {
+        return Ok(Does::Halt(f));
+    }
     let to = target(places, a)?;
-    Ok(arrive(to, f))
+    Ok(Does::Next(f.jumped(to)))
 }
 
 // JPC: on where the value on top is not 0. The value stays there.
@@ -86,9 +79,9 @@ pub fn cal(cells: &mut Cells, places: usize, level: u16, a: i64, f: Frame) -> Re
         return Err(Refusal::CellOutside);
     }
     let outer = outer_base(cells, level, top, f.base)?;
-    let to = target(places, a)?;
+    target(places, a)?;
     link(cells, top, f.base, outer, f.pc + 1);
-    Ok(arrive(to, f.framed(top as i64, top)))
+    goto(places, a, f.framed(top as i64, top))
 }
 
 // OPR 0: "a return leaves the arguments".

@@ -8,12 +8,11 @@ use mir.ValLaws.{to_z-of_z}
 use borrow.Author.Rules.{rules}
 use Rattle.std.proofs.lemmas.Result.{err_from_is_err_and}
 use native.Mathlib.Numerals.{add-one}
-use Rattle.std.specs.Prelude.{Ok}
 use Rattle.numbers.proofs.Bits.{plain}
 use Rattle.machine.specs.declared.frames.Frame.{Frame}
 use Rattle.machine.specs.Frames.{framed}
-use Rattle.machine.specs.Steps.{arrived}
-use Rattle.machine.proofs.StepLaws.{cal_high, cal_lost, cal_out, cal_on, went_in}
+use Rattle.machine.specs.Steps.{went}
+use Rattle.machine.proofs.StepLaws.{cal_high, cal_lost, cal_out, cal_on}
 use Rattle.machine.proofs.jumps.cal.Goals as goal
 
 pub returns-then-top-gt-CELLS : goal.returns-then-top-gt-CELLS
@@ -27,13 +26,13 @@ returns-in_err-outer c =
     let k = rw (to_z-of_z w64 a.f.base h) at c.in_err-outer.ensures in
     λ code room e. rw (p.1, p.2 ∙ k.0.1, k.1) (cal_lost code room e a.f a.cells.now a.level a.a (omega (arith, c.if-top-gt-CELLS.false)) k.0.0)
 
-pub returns-in_err-to : goal.returns-in_err-to
-returns-in_err-to c =
+pub returns-in_err-target : goal.returns-in_err-target
+returns-in_err-target c =
     let a = c.args in
     let h : SFits w64 a.f.base = search rules in
-    let p = err_from_is_err_and c.from_residual-in_err-to.result c.from_residual-in_err-to.ensures.1 in
+    let p = err_from_is_err_and c.from_residual-in_err-target.result c.from_residual-in_err-target.ensures.1 in
     let o = rw (to_z-of_z w64 a.f.base h) at c.in_ok-outer.ensures in
-    let k = rw (to_z-of_z w64 a.a c.ranges.a) at c.in_err-to.ensures in
+    let k = rw (to_z-of_z w64 a.a c.ranges.a) at c.in_err-target.ensures in
     λ code room e. rw (p.1, p.2 ∙ k.1, o.1) (cal_out code room e a.f a.cells.now a.level a.a (omega (arith, c.if-top-gt-CELLS.false)) o.0 k.0)
 
 pub link-requires : goal.link-requires
@@ -48,8 +47,8 @@ returns c =
     let hs : SFits w64 s = search rules in
     let ht : SFits w64 (pos f.top) = record { sfits = omega (arith, c.requires.top) } in
     let o = rw (to_z-of_z w64 f.base h) at c.in_ok-outer.ensures in
-    let k = rw (to_z-of_z w64 a.a c.ranges.a) at c.in_ok-to.ensures in
+    let k = rw (to_z-of_z w64 a.a c.ranges.a) at c.in_ok-target.ensures in
     let g = plain (λ z. framed f z f.top) (pos f.top) ht c.framed.ensures in
-    let r = ap Ok (c.arrive.ensures ∙ ap (λ (x : Frame). arrived c.in_ok-to.to x) g) ∙ went_in a.places (framed f (pos f.top) f.top) k.0 k.1 in
+    let r = rw (to_z-of_z w64 a.a c.ranges.a) at c.goto.ensures ∙ ap (λ (x : Frame). went a.places a.a x) g in
     let x = rw (to_z-of_z w64 f.base h, to_z-of_z w64 s hs, o.1, add-one f.pc) at c.link.ensures in
     λ code room e. rw x (cal_on code room e f a.cells.now a.level a.a (omega (arith, c.if-top-gt-CELLS.false)) c.requires.top o.0 k.0 r)
