@@ -1,11 +1,11 @@
 -- Laws of literals: a value read digit by digit, which stays above the greatest once it is there.
 use mathlib.Core.Path.{◌≡◌, refl, sym, ◌∙◌}
-use Prim.Native.Nat.{ℕ, suc, ◌+◌, ◌*◌, ◌-◌, ◌^◌, ◌≤◌, ◌<◌, min}
+use Prim.Native.Nat.{ℕ, suc, ◌+◌, ◌*◌, ◌-◌, ◌≤◌, ◌<◌}
 use Prim.Native.Char.{code}
 use mathlib.Core.List.{List, [], ◌∷◌}
 use mathlib.Core.Bool.{Bool, true, false, ◌&&◌}
 use native.Mathlib.Numerals.{add-one}
-use native.Mathlib.Nat.{le_refl, le_trans, min-eq_left}
+use native.Mathlib.Nat.{le_refl, le_trans}
 use native.Mathlib.Omega.{arith}
 use lib.Dec.{leb}
 use lib.ListN.{length, get_or, take, drop}
@@ -15,12 +15,20 @@ use Rattle.numbers.specs.Bytes.{is_digit, span, digits}
 use Rattle.numbers.specs.Limits.{greatest}
 use Rattle.lexer.specs.Tokens.{number_at}
 use Rattle.lexer.specs.Meaning.{Shows}
-use Rattle.lexer.specs.Spelling.{literal_of}
+use Rattle.lexer.specs.Spelling.{greatest_before, above, with_digit, literal_of}
 use Rattle.lexer.specs.declared.token.Token.TheVariants.{Integer, TooBig}
 use Rattle.lexer.specs.declared.token.Lexed.{Lexed}
 use Rattle.lexer.proofs.Runs.{span_more, span_stop, span_past}
 
--- the cases of `literal_of`
+-- the cases of `with_digit` and `literal_of`
+pub digit_few : (v b : ℕ) → v ≤ greatest_before → with_digit v b ≡ v * 10 + (b - code "0")
+unfolding with_digit
+digit_few v b h = rw (le-leb _ _ h, with_digit)
+
+pub digit_many : (v b : ℕ) → greatest_before < v → with_digit v b ≡ above
+unfolding with_digit
+digit_many v b h = rw (lt-leb _ _ h, with_digit)
+
 pub literal_fits : (v : ℕ) → v ≤ greatest → literal_of v ≡ Integer v
 unfolding literal_of
 literal_fits v h = rw (le-leb _ _ h, literal_of)
@@ -41,25 +49,16 @@ digits_up (b ∷ l) v = le_trans (omega arith) (digits_up l (v * 10 + (b - code 
 over : (l : List ℕ) (v : ℕ) → greatest < v → literal_of (digits v l) ≡ TooBig
 over l v h = literal_big _ (omega (arith, digits_up l v))
 
--- a value with one digit more, or the greatest usize where it is above that
-abbrev pub with_digit : ℕ → ℕ → ℕ
-with_digit v b = min (min (v * 10) (2 ^ 64 - 1) + (b - code "0")) (2 ^ 64 - 1)
-
-digit_few : (v d : ℕ) → v * 10 + d ≤ greatest → min (min (v * 10) (2 ^ 64 - 1) + d) (2 ^ 64 - 1) ≡ v * 10 + d
-digit_few v d h =
-    let a : min (v * 10) (2 ^ 64 - 1) ≡ v * 10 = min-eq_left (omega arith) in
-    rw a (min-eq_left (omega arith))
-
-capped : (l : List ℕ) (v b : ℕ) (x : Bool) → leb (v * 10 + (b - code "0")) greatest ≡ x → literal_of (digits (with_digit v b) l) ≡ literal_of (digits (v * 10 + (b - code "0")) l)
-capped l v b true e = rw (digit_few v (b - code "0") (leb-true _ _ e))
+capped : (l : List ℕ) (v b : ℕ) (x : Bool) → leb v greatest_before ≡ x → literal_of (digits (with_digit v b) l) ≡ literal_of (digits (v * 10 + (b - code "0")) l)
+capped l v b true e = rw (digit_few v b (leb-true _ _ e))
 capped l v b false e =
-    let h : greatest < v * 10 + (b - code "0") = leb-false _ _ e in
-    over l (with_digit v b) (omega arith) ∙ sym (over l _ (omega arith))
+    let h : greatest_before < v = leb-false _ _ e in
+    rw (digit_many v b h) (over l above (omega arith) ∙ sym (over l _ (omega arith)))
 
 module _ (s : List ℕ) (v e : ℕ) where
   pub digit_more : e < length s → is_digit (get_or s e 0) ≡ true → literal_of (valued s (with_digit v (get_or s e 0)) (e + 1)) ≡ literal_of (valued s v e)
   unfolding digits
-  digit_more h d = rw (span_more is_digit s e h d, add-one, drop-cons s e 0 h) (capped (take (span is_digit (drop (suc e) s)) (drop (suc e) s)) v (get_or s e 0) (leb (v * 10 + (get_or s e 0 - code "0")) greatest) refl)
+  digit_more h d = rw (span_more is_digit s e h d, add-one, drop-cons s e 0 h) (capped (take (span is_digit (drop (suc e) s)) (drop (suc e) s)) v (get_or s e 0) (leb v greatest_before) refl)
 
   pub digit_stop : e < length s → is_digit (get_or s e 0) ≡ false → v ≡ valued s v e
   unfolding digits

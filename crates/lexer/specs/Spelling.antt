@@ -1,5 +1,6 @@
 -- The tokens of the code by their spelling: what the lexer's own functions promise.
-use Rattle.std.specs.Prelude.{true, false, List, [], ◌∷◌, ℕ, ◌+◌, leb}
+use Rattle.std.specs.Prelude.{true, false, List, [], ◌∷◌, ℕ, ◌+◌, ◌*◌, ◌-◌, leb}
+use Prim.Native.Char.{code}
 use Rattle.std.proofs.Math.Option.{none, some}
 use Rattle.numbers.specs.Limits.{greatest}
 use Rattle.lexer.specs.Marks.{Mark, if_word, then_word, else_word, while_word, do_word, const_word, var_word, procedure_word, program_word, begin_word, end_word, call_word, read_word, write_word, odd_word, plus_sign, minus_sign, times_sign, divide_sign, open_sign, close_sign, equal_sign, semicolon_sign, comma_sign, less_sign, greater_sign, at_most_sign, at_least_sign, unequal_sign, becomes_sign, pairs, singles, spelt}
@@ -51,6 +52,18 @@ sign_of i b d =
       | some m ↦ record { token = token_of m; next = i + 2 }
       | none ↦ record { token = named (b ∷ []) singles LexicalError; next = i + 1 }
     ]
+
+-- the greatest value that a digit more does not always bring above the greatest
+abbrev pub greatest_before : ℕ
+greatest_before = 922337203685477580
+
+-- what stands for every value above the greatest
+abbrev pub above : ℕ
+above = 9223372036854775808
+
+-- a value with one digit more
+unfoldable pub with_digit : ℕ → ℕ → ℕ
+with_digit v b = elim (leb v greatest_before) [ true ↦ v * 10 + (b - code "0") | false ↦ above ]
 
 -- the literal of a value
 unfoldable pub literal_of : ℕ → Token
