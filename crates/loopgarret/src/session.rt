@@ -6,6 +6,8 @@
 // before the entry is typed: it is what the next run writes there, once the entry is taken. A refused read writes no
 // prompt, so after a bad entry, or the end of the entries, the prompt shown is the one difference from a run with all
 // entries at once; it is what the Rust shows.
+ghost use Rattle.std.specs.Prelude.{◌≡◌, length, take};
+
 use crate::say::{complain, written};
 use desk::entries::{wants_line, whole_lines};
 use desk::files::read_more;
@@ -52,7 +54,9 @@ pub enum Trouble {
 }
 
 // The entries that the engine is lent: whole lines, and all of them once no more can come.
-fn lent(stage: Stage, entries: &[u8]) -> &[u8] {
+fn lent(stage: Stage, entries: &[u8]) -> &[u8]
+    ensures { result.now ≡ take (length result.now) entries.now }
+{
     if stage == Stage::Over {
         return entries;
     }

@@ -27,7 +27,7 @@ pub fn open(rt: &HostRuntime, command: Command, asked: Asked, name: &[u8]) -> u8
     let mut room = [0; SOURCE];
     match read_file(rt, name, &mut room) {
         Ok(text) => compile(rt, command, Sheet { asked, name, text }),
-        Err(reason) => say::failed(rt, name, reason),
+        Err(cut) => say::failed(rt, name, cut.reason),
     }
 }
 

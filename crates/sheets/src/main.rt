@@ -65,12 +65,12 @@ fn word_at<'a>(rt: &HostRuntime, i: usize, room: &'a mut [u8]) -> &'a [u8] {
     &room[..n]
 }
 
-// The file that the word at a place names; no bytes where it cannot be read.
+// The file that the word at a place names; where it cannot be read to its end, what was read of it.
 fn file_at<'a>(rt: &HostRuntime, i: usize, room: &'a mut [u8]) -> &'a [u8] {
     let mut name = io::buffer();
     match read_file(rt, word_at(rt, i, &mut name), room) {
         Ok(text) => text,
-        Err(_) => &[],
+        Err(cut) => cut.text,
     }
 }
 
