@@ -1,15 +1,15 @@
 -- The entry: bytes below 128, and what each way out of `parse` comes to.
 use Rattle.std.specs.Prelude.{Ok, Err, Option as Perhaps, Some, None}
 use Rattle.std.specs.Option.{ok_or}
-use Rattle.std.specs.Str.{IsAscii, IsNotAscii}
 use mathlib.Core.Path.{◌≡◌, refl, sym, ap, ◌∙◌}
-use mathlib.Core.Bool.{Bool, true, false}
+use mathlib.Core.Bool.{Bool, true, false, ◌&&◌}
 use mathlib.Core.List.{List, [], ◌∷◌, ◌++◌}
-use Prim.Native.Nat.{ℕ, zero, suc, ◌-◌, ◌*◌, ◌≤◌, ◌<◌}
+use Prim.Native.Nat.{ℕ, ◌+◌, ◌-◌, ◌*◌, ◌≤◌, ◌<◌}
+use native.Mathlib.Numerals.{add-one}
 use native.Mathlib.Omega.{arith}
-use lib.ListN.{length, take, drop, replicate, length-append, length-replicate}
-use lib.Seq.{take-append-le, length-take-le, drop_at}
-use borrow.Author.Tests.{le-leb, lt-leb, le-ltb, lt-ltb}
+use lib.ListN.{length, get_or, take, drop, replicate, length-append, length-replicate, drop_of_length-le}
+use lib.Seq.{drop-cons, take-append-le, length-take-le, drop_at}
+use borrow.Author.Tests.{le-leb, lt-leb}
 use Rattle.numbers.specs.Limits.{max_source, tree_places}
 use Rattle.numbers.specs.Lent.{onto, filled, filling}
 use Rattle.numbers.specs.Bytes.{is_ascii, every}
@@ -35,19 +35,27 @@ append_nil : (l : List ℕ) → l ++ [] ≡ l
 append_nil [] = refl
 append_nil (x ∷ l) = ap (λ (t : List ℕ). x ∷ t) (append_nil l)
 
-or_false : (x y : Bool) → y ≡ false → elim x as (λ z. Bool) [ true ↦ y | false ↦ false ] ≡ false
-or_false true y e = e
-or_false false y e = refl
+and_true : (x : Bool) → x && true ≡ x
+and_true true = refl
+and_true false = refl
 
--- bytes that are all below 128, or one that is not
-pub ascii : (s : List ℕ) → IsAscii s → every is_ascii s ≡ true
-ascii [] h = refl
-ascii (b ∷ s) h = rw (lt-ltb b 128 (h 0), every) (ascii s (λ i. h (suc i)))
+and_more : (x y z : Bool) → (x && y) && z ≡ x && (elim y as (λ q. Bool) [ true ↦ z | false ↦ false ])
+and_more true true z = refl
+and_more true false z = refl
+and_more false y z = refl
 
-pub not_ascii : (s : List ℕ) → IsNotAscii s → every is_ascii s ≡ false
-not_ascii [] (i, h) = absurd (omega arith)
-not_ascii (b ∷ s) (zero, h) = rw (le-ltb b 128 h, every)
-not_ascii (b ∷ s) (suc i, h) = or_false (is_ascii b) (every is_ascii s) (not_ascii s (i, h))
+-- a scan that has come to i, where x says whether the bytes before it are below 128
+module _ (s : List ℕ) (i : ℕ) (x : Bool) (scanned : x && every is_ascii (drop i s) ≡ every is_ascii s) where
+  pub ascii_more : (y : Bool) → i < length s → y ≡ is_ascii (get_or s i 0) → (x && y) && every is_ascii (drop (i + 1) s) ≡ every is_ascii s
+  ascii_more y h e =
+      let next : drop i s ≡ get_or s i 0 ∷ drop (i + 1) s = rw (add-one, drop-cons s i 0 h) in
+      let more : every is_ascii (drop i s) ≡ (elim y as (λ q. Bool) [ true ↦ every is_ascii (drop (i + 1) s) | false ↦ false ]) = rw (next, e, every) in
+      and_more x y _ ∙ ap (λ (z : Bool). x && z) (sym more) ∙ scanned
+
+  pub ascii_past : length s ≤ i → x ≡ every is_ascii s
+  ascii_past h =
+      let past : every is_ascii (drop i s) ≡ true = rw (drop_of_length-le s h) in
+      sym (ap (λ (z : Bool). x && z) past ∙ and_true x) ∙ scanned
 
 -- a tree that ends within the room, whose numbers stand in ys; or a refusal
 unfoldable Concludes : List ℕ → List ℕ → Parsed → Type 0
@@ -79,21 +87,21 @@ module _ (src : List ℕ) where
   pub reads_long : {xs : List ℕ} → max_source < length src → Reads src xs xs (Err SourceTooLong)
   reads_long h = refusing SourceTooLong (too_long h) refl
 
-  pub reads_bytes : {xs : List ℕ} → length src ≤ max_source → IsNotAscii src → Reads src xs xs (Err SourceNotAscii)
-  reads_bytes h e = refusing SourceNotAscii (foreign h (not_ascii src e)) refl
+  pub reads_bytes : {xs : List ℕ} → length src ≤ max_source → every is_ascii src ≡ false → Reads src xs xs (Err SourceNotAscii)
+  reads_bytes h e = refusing SourceNotAscii (foreign h e) refl
 
   -- the part that was lent, with what stands after it
-  module _ (xs ys : List ℕ) (lent : length ys ≡ tree_places) (short : length src ≤ max_source) (bytes : IsAscii src) where
+  module _ (xs ys : List ℕ) (lent : length ys ≡ tree_places) (short : length src ≤ max_source) (bytes : every is_ascii src ≡ true) where
     concludes : (j : Perhaps ℕ) (d : Cursor) → Tries (λ b. only (block_node b)) src (take tree_places xs) 0 ys (λ n. program src n) (8 * left start) 0 16 start (try_of (Ok (j, d))) → Concludes src (ys ++ drop tree_places xs) (ok_or j BodyFailedQuietly)
     unfolding Concludes Safe Means parse parsed left sizes encs
     concludes (Some e) d h =
         let b = h.means fuel (omega arith) (record { seen = 0; at = 0 }) (start_stands src) in
         let w = b.wrote in
         let g = h.safe in
-        (b.value, (read short (ascii src bytes) ∙ ap parsed b.is, ((omega (arith, w.ends), omega (arith, g.room)), take-append-le e ys (drop tree_places xs) (omega (arith, g.room, lent)) ∙ w.lies ∙ append_nil (enc (block_node b.value)))))
+        (b.value, (read short bytes ∙ ap parsed b.is, ((omega (arith, w.ends), omega (arith, g.room)), take-append-le e ys (drop tree_places xs) (omega (arith, g.room, lent)) ∙ w.lies ∙ append_nil (enc (block_node b.value)))))
     concludes None d h =
         let b = h.means fuel (omega arith) (record { seen = 0; at = 0 }) (start_stands src) in
-        read short (ascii src bytes) ∙ ap parsed (b.is ∙ ap (λ v. got v b.at) b.empty)
+        read short bytes ∙ ap parsed (b.is ∙ ap (λ v. got v b.at) b.empty)
 
     whole : (p : Parsed) → Concludes src (ys ++ drop tree_places xs) p → Reads src xs (ys ++ drop tree_places xs) p
     unfolding Concludes
@@ -105,7 +113,7 @@ module _ (src : List ℕ) where
 
     pub reads_refused : {w : Refusal} → Refuses src (λ n. program src n) (8 * left start) start (number_of w) → Reads src xs (ys ++ drop tree_places xs) (Err w)
     unfolding Concludes parse parsed left
-    reads_refused {w} h = whole (Err w) (read short (ascii src bytes) ∙ ap parsed (h fuel (omega arith) (record { seen = 0; at = 0 }) (start_stands src)))
+    reads_refused {w} h = whole (Err w) (read short bytes ∙ ap parsed (h fuel (omega arith) (record { seen = 0; at = 0 }) (start_stands src)))
 
   -- what was read, once the room behind it is zero
   pub parses : {xs ys zs : List ℕ} {u : ℕ} {r : Parsed} → tree_places ≤ length xs → length ys ≡ length xs → Reads src xs ys r → u ≡ end_of r → zs ≡ onto ys (filling u tree_places 0 ys) → Parses src xs zs r

@@ -19,7 +19,8 @@ use lexer::{Cursor, Token};
 use numbers::refusal::Refusal;
 use tree::Kind;
 
-// A name that has to be there.
+// A name that has to be there. It is put where it is called.
+#[inline]
 pub fn parse_id(
     text: &[u8],
     tree: &mut [u32],

@@ -18,7 +18,9 @@ use numbers::limits::MAX_OPEN;
 use numbers::refusal::Refusal;
 use tree::Kind;
 
-// `procedure` name `(` [names] `)` `;`: two nodes
+// `procedure` name `(` [names] `)` `;`: two nodes. It stays a call, so that what it holds is off the stack while the
+// procedure is open.
+#[inline(never)]
 pub fn parse_proc_head(
     text: &[u8],
     tree: &mut [u32],
