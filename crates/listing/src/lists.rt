@@ -1,5 +1,6 @@
 // The public entry `list`: the lines of a code list, one after the other, as many as fit.
 ghost use Rattle.std.specs.Prelude.{◌≡◌};
+ghost use Rattle.numbers.specs.Refusals.{number_of};
 ghost use Rattle.listing.specs.Outcome.{list_outcome};
 ghost use Rattle.listing.specs.Answers.{listed_of};
 
@@ -17,6 +18,16 @@ const DONE: u8 = 0;
 pub struct Listed {
     pub number: u8,
     pub out_len: usize,
+}
+
+// A listing that ends before a line that did not fit.
+fn cut_short(refusal: Refusal, out_len: usize) -> Listed
+    ensures { (result.number ≡ number_of refusal) × (result.out_len ≡ out_len) }
+{
+    Listed {
+        number: refusal.number(),
+        out_len,
+    }
 }
 
 // Writes the listing of a code list, whole lines only.
@@ -39,12 +50,7 @@ pub fn list(kinds: &[i8], levels: &[u16], operands: &[i64], out: &mut [u8]) -> L
     for i in 0..places {
         match put_line(out, at, i as u64, code.get(i)) {
             Ok(next) => at = next,
-            Err(refusal) => {
-                return Listed {
-                    number: refusal.number(),
-                    out_len: at,
-                };
-            }
+            Err(refusal) => return cut_short(refusal, at),
         }
     }
     Listed {

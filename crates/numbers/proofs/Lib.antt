@@ -8,3 +8,4 @@ pub mod Readings
 pub mod Screens
 pub mod Putting
 pub mod Filling
+pub mod Sums

@@ -54,6 +54,7 @@ impl Compare {
     }
 }
 
+#[tactic(auto, using(crate::proofs::Sums::sum_told))]
 pub fn add(a: i64, b: i64) -> Result<i64, Refusal>
     ensures { val_of result ≡ arith add a b }
 {

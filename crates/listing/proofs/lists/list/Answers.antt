@@ -30,7 +30,7 @@ returns-in-Err c =
     let a = c.args in
     let code : Code = record { kinds = a.kinds.now; levels = a.levels.now; operands = a.operands.now } in
     let line = rw (c.in-Err.is, c.get.ensures) at c.put_line.ensures in
-    rw (c.number-in-Err.ensures, line.0) (stands_full (instrs_in code) a.out.now c.loop-i.invariant (omega (arith, c.loop-i-test.true, c.len-places.ensures)) (omega (arith, c.if-places-gt-MAX_CODE.false, c.len-places.ensures)) line.1)
+    rw (c.cut_short.ensures.0, c.cut_short.ensures.1, line.0) (stands_full (instrs_in code) a.out.now c.loop-i.invariant (omega (arith, c.loop-i-test.true, c.len-places.ensures)) (omega (arith, c.if-places-gt-MAX_CODE.false, c.len-places.ensures)) line.1)
 
 pub loop-i-preserved : goal.loop-i-preserved
 loop-i-preserved c =
