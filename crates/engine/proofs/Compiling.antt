@@ -77,6 +77,14 @@ draft_short work h k l = sym (third_tells tree_places (length work.tree) table_p
 pub all_held : (work : Work) → tree_places ≤ length work.tree → table_places ≤ length work.table → draft_places ≤ length work.draft → work_holds work ≡ true
 all_held work h k l = sym (third_tells tree_places (length work.tree) table_places (length work.table) _ h k) ∙ le-leb draft_places (length work.draft) l
 
+-- a room for the tree that is too small
+pub tree_refused : (src : List ℕ) (ks : List ℤ) (ls : List ℕ) (os : List ℤ) (tree table draft : List ℕ) (r : Answer) → (leb max_code (length ks) && leb max_code (length ls) && leb max_code (length os)) ≡ true → length tree < tree_places → r ≡ answer_of (Err RoomTooSmall)
+    → compiled_of r ks ls os tree table draft ≡ compile_outcome src (record { kinds = ks; levels = ls; operands = os }) (record { tree = tree; table = table; draft = draft })
+tree_refused src ks ls os tree table draft r h k e =
+    let code : Code = record { kinds = ks; levels = ls; operands = os } in
+    let work : Work = record { tree = tree; table = table; draft = draft } in
+    cramped src code work (work_short code work h (tree_short work k)) e refl refl refl
+
 -- where all three hold, there is room for each
 pub all_long : (m n k l p q : ℕ) → (leb m n && leb k l) && leb p q ≡ true → (m ≤ n) × ((k ≤ l) × (p ≤ q))
 all_long m n k l p q h = go (leb m n) (leb k l) (leb p q) (leb-true m n) (leb-true k l) (leb-true p q) h

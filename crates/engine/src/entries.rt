@@ -46,6 +46,7 @@ fn holds_code(kinds: usize, levels: usize, operands: usize) -> bool
 }
 
 // Compiles a text into the lent code places.
+#[tactic(auto, using(crate::proofs::Compiling::tree_refused))]
 pub fn compile(
     text: &[u8],
     kinds: &mut [i8],

@@ -6,7 +6,7 @@ use Rattle.pcode.specs.Code.{Code}
 use Rattle.outcomes.specs.Compile.{code_of, compile}
 use Rattle.outcomes.specs.Outcomes.{Work}
 use Rattle.engine.specs.Entries.{taken}
-use Rattle.engine.proofs.Compiling.{leaves, wiped, whole, roomy, cramped, code_short, work_short, tree_short, table_short, draft_short, all_held, all_long}
+use Rattle.engine.proofs.Compiling.{leaves, wiped, whole, roomy, cramped, code_short, work_short, table_short, draft_short, all_held, all_long}
 use Rattle.engine.proofs.entries.compile.Goals as goal
 use Rattle.engine.proofs.entries.compile.Goals.{After-answer-compiled}
 
@@ -15,12 +15,6 @@ returns-then-not-holds_code c =
     let code : Code = record { kinds = c.args.kinds.now; levels = c.args.levels.now; operands = c.args.operands.now } in
     let work : Work = record { tree = c.args.tree.now; table = c.args.table.now; draft = c.args.draft.now } in
     cramped c.args.text.now code work (code_short code work (sym c.holds_code.ensures ∙ c.if-not-holds_code.true)) c.answer.ensures refl refl refl
-
-pub returns-in_default : goal.returns-in_default
-returns-in_default c =
-    let code : Code = record { kinds = c.args.kinds.now; levels = c.args.levels.now; operands = c.args.operands.now } in
-    let work : Work = record { tree = c.args.tree.now; table = c.args.table.now; draft = c.args.draft.now } in
-    cramped c.args.text.now code work (work_short code work (sym c.holds_code.ensures ∙ c.if-not-holds_code.false) (tree_short work c.in_default.ensures.cases)) c.answer-in_default.ensures refl refl refl
 
 pub returns-in_default-first_chunk_mut : goal.returns-in_default-first_chunk_mut
 returns-in_default-first_chunk_mut c =
