@@ -20,9 +20,13 @@ use Rattle.outcomes.specs.Outcomes.{CompileOutcome, Work, code_holds, work_holds
 use Rattle.engine.specs.declared.entries.Compiled.{Compiled as Answer}
 use Rattle.engine.specs.Entries.{answer_of, compiled_of, Taken}
 
+-- as many zeros as a room has places
+pub zeroed : (n : ℕ) {m : ℕ} {xs : List ℕ} → m ≡ n → xs ≡ replicate m 0 → xs ≡ replicate n 0
+zeroed n e p = rw e at p
+
 -- working room of n places at the end: zeros, and beyond them what was lent
-pub wiped : (n m : ℕ) (lent : List ℕ) {xs : List ℕ} → m ≡ n → xs ≡ replicate m 0 → xs ++ drop n lent ≡ onto lent (replicate n 0)
-wiped n m lent e p = rw (p, e, length-replicate {A = ℕ} n 0)
+pub wiped : (n : ℕ) (lent : List ℕ) {xs : List ℕ} → xs ≡ replicate n 0 → xs ++ drop n lent ≡ onto lent (replicate n 0)
+wiped n lent p = rw (p, length-replicate {A = ℕ} n 0)
 
 -- a front and what lies behind it
 pub whole : (n : ℕ) {xs ys : List ℕ} → ys ≡ take n xs → ys ++ drop n xs ≡ xs

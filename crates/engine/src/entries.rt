@@ -6,9 +6,9 @@ ghost use Rattle.engine.specs.Entries.{answer_of, compiled_of};
 
 use crate::drafts::draft_text;
 use crate::places::hand_out;
+use crate::rooms::wipe;
 use numbers::limits::{DRAFT_PLACES, MAX_CODE, TABLE_PLACES, TREE_PLACES};
 use numbers::refusal::Refusal;
-use numbers::room::clear;
 use translator::Translated;
 
 // "done"
@@ -72,8 +72,6 @@ pub fn compile(
     };
     let compiled = answer(draft_text(text, tree, table, draft));
     hand_out(draft, compiled.length, kinds, levels, operands);
-    clear(tree, 0);
-    clear(table, 0);
-    clear(draft, 0);
+    wipe(tree, table, draft);
     compiled
 }

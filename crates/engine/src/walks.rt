@@ -9,6 +9,7 @@ ghost use Rattle.engine.specs.Walking.{refused_with, ended_of, ended_with, Leave
 
 use crate::drafts::draft_text;
 use crate::entries::DONE;
+use crate::rooms::wipe;
 use machine::Ended;
 use numbers::limits::{DRAFT_PLACES, MAX_ROWS, TABLE_PLACES, TREE_PLACES};
 use numbers::refusal::Refusal;
@@ -95,8 +96,6 @@ pub fn walk(
     clear(&mut vars[..MAX_ROWS], 0);
     let walked = walk_text(text, input, budget, out, vars, tree, table, draft);
     let ended = walked.unwrap_or_else(refused);
-    clear(tree, 0);
-    clear(table, 0);
-    clear(draft, 0);
+    wipe(tree, table, draft);
     ended
 }

@@ -1,7 +1,7 @@
 -- The proof of `compile`.
 use mathlib.Core.Path.{refl, sym, ap, ◌∙◌}
-use native.Mathlib.Omega.{arith}
 use lib.ListN.{length}
+use Rattle.numbers.specs.Limits.{tree_places, table_places, draft_places}
 use Rattle.pcode.specs.Code.{Code}
 use Rattle.outcomes.specs.Compile.{code_of, compile}
 use Rattle.outcomes.specs.Outcomes.{Work}
@@ -56,4 +56,4 @@ returns c =
     let d = rw (sym e) at t.stands in
     roomy c.args.text.now code work (sym c.holds_code.ensures ∙ c.if-not-holds_code.false) (all_held work c.in-Some.ensures.cases.enough c.in-Some-first_chunk_mut.ensures.cases.enough c.in-Some-first_chunk_mut-2.ensures.cases.enough)
     (leaves (compile c.args.text.now) code work c.draft_text.result t c.answer-compiled.ensures (c.hand_out.ensures.kinds_after l d) (c.hand_out.ensures.levels_after l d) (c.hand_out.ensures.operands_after l d)
-    (wiped 98400 (length c.draft_text.new.tree) c.args.tree.now (omega (arith, c.draft_text.array_long)) c.clear.ensures) (wiped 6144 (length c.draft_text.new.table) c.args.table.now (omega (arith, c.draft_text.array_long2)) c.clear-2.ensures) (wiped 16384 (length c.draft_text.new.draft) c.args.draft.now (omega (arith, c.draft_text.array_long3)) c.clear-3.ensures))
+    (wiped tree_places c.args.tree.now c.wipe.ensures.tree_after) (wiped table_places c.args.table.now c.wipe.ensures.table_after) (wiped draft_places c.args.draft.now c.wipe.ensures.draft_after))

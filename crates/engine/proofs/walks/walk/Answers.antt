@@ -1,8 +1,7 @@
 -- The proof of `walk`.
 use mathlib.Core.Path.{refl}
-use native.Mathlib.Omega.{arith}
 use lib.IntN.{pos}
-use lib.ListN.{length}
+use Rattle.numbers.specs.Limits.{tree_places, table_places, draft_places}
 use Rattle.numbers.proofs.Putting.{filled_front}
 use Rattle.outcomes.specs.Outcomes.{Work}
 use Rattle.engine.proofs.Compiling.{wiped, whole, tree_short, table_short, draft_short, all_held}
@@ -44,4 +43,4 @@ returns c =
     roomy_walk c.args.text.now c.args.input.now c.args.budget c.args.out.now vars work c.if-vars-lt-MAX_ROWS.false
     (all_held work c.in-Some.ensures.cases.enough c.in-Some-first_chunk_mut.ensures.cases.enough c.in-Some-first_chunk_mut-2.ensures.cases.enough)
     (all_left _ c.args.budget c.args.out.now vars work {r = c.unwrap_or_else-ended.result} (filled_front 512 (pos 0) vars c.if-vars-lt-MAX_ROWS.false c.clear.ensures refl) (rw e c.walk_text-walked.ensures)
-    (wiped 98400 (length c.walk_text-walked.new.tree) c.args.tree.now (omega arith) c.clear-2.ensures) (wiped 6144 (length c.walk_text-walked.new.table) c.args.table.now (omega arith) c.clear-3.ensures) (wiped 16384 (length c.walk_text-walked.new.draft) c.args.draft.now (omega arith) c.clear-4.ensures))
+    (wiped tree_places c.args.tree.now c.wipe.ensures.tree_after) (wiped table_places c.args.table.now c.wipe.ensures.table_after) (wiped draft_places c.args.draft.now c.wipe.ensures.draft_after))
