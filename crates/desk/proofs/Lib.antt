@@ -1,4 +1,5 @@
 pub mod Pages
 mod Figures
+mod Letters
 mod Lines
 mod Meanings

@@ -2,13 +2,12 @@
 // does.
 ghost use Rattle.std.specs.Prelude.{◌≡◌};
 ghost use Rattle.numbers.specs.Bytes.{bytes};
-ghost use Rattle.pcode.specs.Code.{kind_no};
 ghost use Rattle.pcode.specs.Coded.{op_of};
 ghost use Rattle.desk.specs.Page.{Put, SameRoom};
 ghost use Rattle.desk.specs.Listing.{letters, line_text};
 
 use crate::page::Page;
-use pcode::{Code, Instruction, Kind};
+use pcode::{Code, Kind};
 
 // The three letters of a kind.
 #[tactic(auto, unfolding(crate::specs::Listing::letters, numbers::specs::Bytes::bytes))]
@@ -32,17 +31,17 @@ fn letters(kind: Kind) -> &'static [u8]
 }
 
 impl Page<'_> {
-    // Puts the line of an instruction.
-    pub fn put_line(&mut self, index: u64, place: Instruction)
-        ensures { Put (line_text index (kind_no (op_of place.kind)) place.level place.operand) self.old self.new }
+    // Puts the line of an instruction, whose kind is lent by its number.
+    pub fn put_line(&mut self, index: u64, kind: i8, level: u16, operand: i64)
+        ensures { Put (line_text index kind level operand) self.old self.new }
     {
         self.put_right(index);
         self.put(b"| ");
-        self.put(letters(place.kind));
+        self.put(letters(Kind::from(kind)));
         self.put(b" ");
-        self.put_right(u64::from(place.level));
+        self.put_right(u64::from(level));
         self.put(b"   ");
-        self.put_number(place.operand);
+        self.put_number(operand);
         self.put(b"\n");
     }
 
@@ -51,7 +50,7 @@ impl Page<'_> {
         ensures { SameRoom self.old self.new }
     {
         for i in 0..code.len() {
-            self.put_line(i as u64, code.get(i));
+            self.put_line(i as u64, code.kinds[i], code.levels[i], code.operands[i]);
         }
     }
 }

@@ -1,6 +1,8 @@
 // A page: a lent slice whose first bytes are text. What is put on it goes behind them, as far as there is room, so that a
 // message of several parts is written out in one go.
-ghost use Rattle.std.specs.Prelude.{◌≡◌, ◌+◌, ◌≤◌, length, take, []};
+ghost use Rattle.std.specs.Prelude.{◌≡◌, ◌+◌, ◌≤◌, length, take, [], ◌∷◌};
+
+use numbers::screen::{decimal_length, fill_decimal};
 
 // Bytes that a column is wide.
 const COLUMN: usize = 4;
@@ -59,6 +61,16 @@ impl<'a> Page<'a> {
         self.len = end;
     }
 
+    // Puts a byte.
+    pub fn put_byte(&mut self, b: u8)
+        ensures { Put (b ∷ []) self.old self.new }
+    {
+        if self.len < self.room.len() {
+            self.room[self.len] = b;
+            self.len += 1;
+        }
+    }
+
     // Puts a count in decimal.
     pub fn put_count(&mut self, n: u64)
         ensures { Put (count n) self.old self.new }
@@ -70,6 +82,21 @@ impl<'a> Page<'a> {
 
     // Puts a number in decimal, a minus in front where it is negative.
     pub fn put_number(&mut self, x: i64)
+        ensures { Put (number x) self.old self.new }
+    {
+        let size = decimal_length(x);
+        if self.left() < size {
+            self.put_cut(x);
+            return;
+        }
+        let start = self.len;
+        let end = start + size;
+        fill_decimal(&mut self.room[start..end], x);
+        self.len = end;
+    }
+
+    // Puts as much of a number as there is room for.
+    fn put_cut(&mut self, x: i64)
         ensures { Put (number x) self.old self.new }
     {
         if x < 0 {
