@@ -15,10 +15,11 @@ pub fn put_bytes(page: &mut Page<'_>, s: &[u8])
     ensures { SameRoom page.old page.new }
 {
     if s.is_empty() {
-        page.put(b"-");
+        page.put_byte(b'-');
     }
     for b in s {
-        page.put(&[DIGITS[(*b / 16) as usize], DIGITS[(*b % 16) as usize]]);
+        page.put_byte(DIGITS[(*b / 16) as usize]);
+        page.put_byte(DIGITS[(*b % 16) as usize]);
     }
 }
 
@@ -36,12 +37,12 @@ pub fn put_values(page: &mut Page<'_>, values: &[i64])
     ensures { SameRoom page.old page.new }
 {
     let Some(last) = values.iter().rposition(|x| *x != 0) else {
-        page.put(b"-");
+        page.put_byte(b'-');
         return;
     };
     put_number(page, values[0]);
     for x in &values[1..=last] {
-        page.put(b",");
+        page.put_byte(b',');
         put_number(page, *x);
     }
 }
@@ -50,7 +51,7 @@ pub fn put_values(page: &mut Page<'_>, values: &[i64])
 pub fn put_count(page: &mut Page<'_>, n: usize)
     ensures { SameRoom page.old page.new }
 {
-    page.put(b" ");
+    page.put_byte(b' ');
     if let Ok(n) = i64::try_from(n) {
         put_number(page, n);
     }
@@ -61,17 +62,16 @@ pub fn put_code(page: &mut Page<'_>, code: Code<'_>)
     ensures { SameRoom page.old page.new }
 {
     if code.len() == 0 {
-        page.put(b"-");
+        page.put_byte(b'-');
     }
     for i in 0..code.len() {
         if 0 < i {
-            page.put(b";");
+            page.put_byte(b';');
         }
-        let place = code.get(i);
-        put_number(page, i64::from(place.kind.number()));
-        page.put(b",");
-        put_number(page, i64::from(place.level));
-        page.put(b",");
-        put_number(page, place.operand);
+        put_number(page, i64::from(code.kinds[i]));
+        page.put_byte(b',');
+        put_number(page, i64::from(code.levels[i]));
+        page.put_byte(b',');
+        put_number(page, code.operands[i]);
     }
 }
