@@ -28,6 +28,11 @@ struct Lines<'a> {
     ghost within: { have ≤ length room.now },
 }
 
+// Whether a line has so many words.
+pub fn has_words(line: &[u8], count: usize) -> bool {
+    line.split(|b| *b == b' ').count() == count
+}
+
 // The answer to a case, by its sort; None where the line is none.
 fn answer_case(line: &[u8], answer: &mut Page<'_>) -> Option<()> {
     match line.split(|b| *b == b' ').nth(1)? {

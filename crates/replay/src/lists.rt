@@ -1,5 +1,7 @@
 // Cases `ID listed CODE ROOM`, answered `ID listed NUMBER OUTLEN OUTPUT`.
-use crate::lines::MOST_PLACES;
+ghost use Rattle.desk.specs.Page.{SameRoom};
+
+use crate::lines::{MOST_PLACES, has_words};
 use desk::page::Page;
 use pcode::Code;
 use protocol::print::{put_bytes, put_count};
@@ -8,8 +10,16 @@ use protocol::read::{read_code, read_number};
 // "In `listed` ROOM is at most 262,144"
 const MOST_ROOM: usize = 262144;
 
+// The words of a case.
+const WORDS: usize = 4;
+
 // Answers a case of a listing; None where the line is none.
-pub fn answer_listed(line: &[u8], answer: &mut Page<'_>) -> Option<()> {
+pub fn answer_listed(line: &[u8], answer: &mut Page<'_>) -> Option<()>
+    ensures { SameRoom answer.old answer.new }
+{
+    if !has_words(line, WORDS) {
+        return None;
+    }
     let mut words = line.split(|b| *b == b' ');
     let name = words.next()?;
     let _sort = words.next()?;
@@ -18,9 +28,6 @@ pub fn answer_listed(line: &[u8], answer: &mut Page<'_>) -> Option<()> {
     let mut operands = [0; MOST_PLACES];
     let code = read_code(words.next()?, &mut kinds, &mut levels, &mut operands)?;
     let room = room_of(words.next()?)?;
-    if words.next().is_some() {
-        return None;
-    }
     put_listed(answer, name, code, &mut [0; MOST_ROOM], room)
 }
 
@@ -31,7 +38,9 @@ fn put_listed(
     code: Code<'_>,
     out: &mut [u8],
     room: usize,
-) -> Option<()> {
+) -> Option<()>
+    ensures { SameRoom answer.old answer.new }
+{
     let out = out.get_mut(..room)?;
     let listed = listing::list(code.kinds, code.levels, code.operands, out);
     let out = out.get(..listed.out_len)?;

@@ -1,13 +1,23 @@
 // Cases `ID run CODE INPUT BUDGET ROOM`, answered `ID run NUMBER OUTLEN LINES STEPS OUTPUT CELLS`.
-use crate::lines::{MOST_BYTES, MOST_PLACES};
+ghost use Rattle.desk.specs.Page.{SameRoom};
+
+use crate::lines::{MOST_BYTES, MOST_PLACES, has_words};
 use desk::page::Page;
 use machine::Ended;
 use numbers::limits::CELLS;
 use protocol::print::{put_bytes, put_count, put_values};
 use protocol::read::{read_bytes, read_code, read_number};
 
+// The words of a case.
+const WORDS: usize = 6;
+
 // Answers a case of a run; None where the line is none.
-pub fn answer_run(line: &[u8], answer: &mut Page<'_>) -> Option<()> {
+pub fn answer_run(line: &[u8], answer: &mut Page<'_>) -> Option<()>
+    ensures { SameRoom answer.old answer.new }
+{
+    if !has_words(line, WORDS) {
+        return None;
+    }
     let mut words = line.split(|b| *b == b' ');
     let name = words.next()?;
     let _sort = words.next()?;
@@ -19,9 +29,6 @@ pub fn answer_run(line: &[u8], answer: &mut Page<'_>) -> Option<()> {
     let input = read_bytes(words.next()?, &mut input)?;
     let budget = read_number(words.next()?, u32::MAX)?;
     let room = read_number(words.next()?, MOST_BYTES as u32)? as usize;
-    if words.next().is_some() {
-        return None;
-    }
     let mut out = [0; MOST_BYTES];
     let mut cells = [0; CELLS];
     let ended = machine::run(
@@ -44,7 +51,9 @@ pub fn put_ended(
     ended: Ended,
     out: &[u8],
     values: &[i64],
-) -> Option<()> {
+) -> Option<()>
+    ensures { SameRoom answer.old answer.new }
+{
     let out = out.get(..ended.out_len)?;
     answer.put(name);
     answer.put(sort);
