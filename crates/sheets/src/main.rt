@@ -6,6 +6,7 @@ ghost use Rattle.std.specs.Prelude.{◌<◌};
 
 use desk::files::read_file;
 use desk::words::{BUDGET, count_of};
+use engine::Compiled;
 use numbers::limits::{CELLS, DRAFT_PLACES, MAX_CODE, MAX_SOURCE, TABLE_PLACES, TREE_PLACES};
 use std::env::FillError;
 use std::rt::Env;
@@ -19,23 +20,27 @@ const SOURCE: usize = MAX_SOURCE + 1;
 // More bytes than an example's entries or output have.
 const ROOM: usize = 4096;
 
+// Compiles a sheet over working room of its own.
+fn compiled(
+    text: &[u8],
+    kinds: &mut [i8],
+    levels: &mut [u16],
+    operands: &mut [i64],
+) -> Compiled {
+    let mut tree = [0; TREE_PLACES];
+    let mut table = [0; TABLE_PLACES];
+    let mut draft = [0; DRAFT_PLACES];
+    engine::compile(
+        text, kinds, levels, operands, &mut tree, &mut table, &mut draft,
+    )
+}
+
 // Whether the sheet, with these entries, ends with the number and writes what is wanted.
 fn gives(text: &[u8], entries: &[u8], wanted: &[u8], number: u8) -> bool {
     let mut kinds = [0; MAX_CODE];
     let mut levels = [0; MAX_CODE];
     let mut operands = [0; MAX_CODE];
-    let mut tree = [0; TREE_PLACES];
-    let mut table = [0; TABLE_PLACES];
-    let mut draft = [0; DRAFT_PLACES];
-    let made = engine::compile(
-        text,
-        &mut kinds,
-        &mut levels,
-        &mut operands,
-        &mut tree,
-        &mut table,
-        &mut draft,
-    );
+    let made = compiled(text, &mut kinds, &mut levels, &mut operands);
     if made.number != 0 {
         return false;
     }
