@@ -21,12 +21,7 @@ const SOURCE: usize = MAX_SOURCE + 1;
 const ROOM: usize = 4096;
 
 // Compiles a sheet over working room of its own.
-fn compiled(
-    text: &[u8],
-    kinds: &mut [i8],
-    levels: &mut [u16],
-    operands: &mut [i64],
-) -> Compiled {
+fn compiled(text: &[u8], kinds: &mut [i8], levels: &mut [u16], operands: &mut [i64]) -> Compiled {
     let mut tree = [0; TREE_PLACES];
     let mut table = [0; TABLE_PLACES];
     let mut draft = [0; DRAFT_PLACES];
